@@ -8,7 +8,7 @@ use Rattle.meaning.specs.Choices.{and, listed, allBelow}
 use Rattle.meaning.specs.Words.{Words, binary, unary}
 use Rattle.meaning.specs.Terms.{nodeOf, below, mainOf}
 use Rattle.meaning.specs.Counts.{wholeSize}
-use Rattle.meaning.specs.Checks.{operandsOf, usedOf, operandsBelow, countsFit, parSmall, refusalAt, scan, verdictOf}
+use Rattle.meaning.specs.Checks.{operandsOf, usedOf, operandsBelow, countsFit, parSmall, refusalAt, firstRefusal, verdictOf}
 use Rattle.meaning.specs.Cycles.{evaluate}
 use Rattle.meaning.specs.Answers.{judged, outcomeNumbers, evaluatedOf, evaluatedNumbers}
 
@@ -87,7 +87,7 @@ runs =
     []
 
 runs-agree : all runs ≡ true
-unfolding listed allBelow binary unary nodeOf below operandsOf usedOf operandsBelow countsFit parSmall refusalAt scan
+unfolding listed allBelow binary unary nodeOf below operandsOf usedOf operandsBelow countsFit parSmall refusalAt firstRefusal
     verdictOf evaluate evaluatedOf
 runs-agree = refl
 
@@ -137,5 +137,5 @@ judgements =
     []
 
 judgements-agree : every judgements ≡ true
-unfolding nodeOf below operandsOf usedOf operandsBelow countsFit parSmall refusalAt scan verdictOf
+unfolding nodeOf below operandsOf usedOf operandsBelow countsFit parSmall refusalAt firstRefusal verdictOf
 judgements-agree = refl

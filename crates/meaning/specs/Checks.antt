@@ -102,12 +102,13 @@ refusalAt w t k =
 abbrev pub sizeVerdict : List ℕ → Verdict
 sizeVerdict t = pick (leb (wholeSize (mainOf t)) 4096) Accepted (Refused 9 0)
 
--- 3 to 8 term by term, n terms from term k on: the first that gives a refusal is its place.
-unfoldable pub scan : ℕ → List ℕ → ℕ → ℕ → Verdict
-scan w t zero k = sizeVerdict t
-scan w t (suc n) k = pick (eqb (refusalAt w t k) 0) (scan w t n (suc k)) (Refused (refusalAt w t k) k)
+-- n places from place k on: the first whose number is not 0 is refused with it; where there is none, what follows decides.
+unfoldable pub firstRefusal : (ℕ → ℕ) → ℕ → ℕ → Verdict → Verdict
+firstRefusal number zero k follows = follows
+firstRefusal number (suc n) k follows =
+    pick (eqb (number k) 0) (firstRefusal number n (suc k) follows) (Refused (number k) k)
 
--- 1 to 9.
+-- 1 to 9: 3 to 8 term by term, lowest first, and 9 last.
 unfoldable pub verdictOf : ℕ → List ℕ → Verdict
 verdictOf w t =
-    pick (widthFits w) (pick (lengthFits t) (scan w t (count t) 0) (Refused 2 0)) (Refused 1 0)
+    pick (widthFits w) (pick (lengthFits t) (firstRefusal (refusalAt w t) (count t) 0 (sizeVerdict t)) (Refused 2 0)) (Refused 1 0)
