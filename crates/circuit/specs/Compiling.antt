@@ -1,5 +1,6 @@
 -- Compiling: the whole circuit of a term, and what the compiler answers and writes. Definitions only.
--- Document 01: "Cells", the item on the whole circuit and what follows the items. Read after: `Blocks`, meaning's `Answers`. Assumes nothing.
+-- Document 01: "Cells", the item on the whole circuit and what follows the items.
+-- Read after: `Blocks`, meaning's `Answers`. Assumes nothing.
 use Prim.Native.Nat.{ℕ, zero, suc, _*_}
 use mathlib.Core.List.{List, [], _∷_, _++_}
 use lib.Dec.{leb}

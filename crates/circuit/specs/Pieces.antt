@@ -52,7 +52,8 @@ abbrev pub registers : List ℕ → List Cell
 registers [] = []
 registers (x ∷ xs) = wordRegister x ∷ registers xs
 
--- Between a test E and its branches, at p: rise of E's done; E's word is not zero; not; the rise and each of the two, which start the branches.
+-- Between a test E and its branches, at p: rise of E's done; E's word is not zero; not; the rise and each of the two, which start
+-- the branches.
 abbrev pub gates : ℕ → Block → List Cell
 gates p E =
     rise p (E .done) ++

@@ -1,5 +1,6 @@
 // Netlists as values: what the compiler answers, and what a cell's numbers are.
-// What netlists are, how they are emitted, clocked and judged, and the promise about them is in `specs/`; that it holds, in `proofs/`.
+// How netlists are emitted, clocked and judged, and the promise about them is in `specs/`;
+// that it holds, in `proofs/`.
 
 // What one of a cell's three numbers is.
 pub enum Port {

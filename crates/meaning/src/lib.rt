@@ -1,5 +1,5 @@
-// The answers that the parts share, as values. What each case says in numbers is `specs/Answers.antt`.
-// Nothing is computed here: the crate's definitions and the laws about them are in `specs/` and `proofs/`.
+// The answers that the parts share, as values; `specs/Answers.antt` gives each case's numbers.
+// Nothing is computed here: the definitions are in `specs/`, the laws about them in `proofs/`.
 
 // A judgement: accepted, or refused with document 01's number and the place that it names.
 pub enum Verdict {
@@ -7,7 +7,7 @@ pub enum Verdict {
     Refused(u32, u32),
 }
 
-// A table's judgement with what is known of each term: input words, output words, and cells up to the cap.
+// A table's judgement with each term's input words, output words, and cells up to the cap.
 pub struct Facts {
     pub verdict: Verdict,
     pub ins: [u32; 256],
