@@ -1,2 +1,4 @@
 -- What is shown of the definitions.
+pub mod Tests
+pub mod Decoded
 pub mod Cases
