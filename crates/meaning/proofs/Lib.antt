@@ -1,4 +1,5 @@
 -- What is shown of the definitions.
 pub mod Tests
 pub mod Decoded
+pub mod Accepted
 pub mod Cases
