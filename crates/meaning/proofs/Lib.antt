@@ -2,4 +2,5 @@
 pub mod Tests
 pub mod Decoded
 pub mod Accepted
+pub mod Typed
 pub mod Cases
