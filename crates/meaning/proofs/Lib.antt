@@ -2,5 +2,6 @@
 pub mod Tests
 pub mod Decoded
 pub mod Accepted
+pub mod Rows
 pub mod Typed
 pub mod Cases
