@@ -2,6 +2,7 @@
 pub mod Tests
 pub mod Decoded
 pub mod Accepted
+pub mod Accepting
 pub mod Rows
 pub mod Typed
 pub mod Cases
