@@ -5,4 +5,5 @@ pub mod Accepted
 pub mod Accepting
 pub mod Rows
 pub mod Typed
+pub mod Runs
 pub mod Cases
