@@ -6,4 +6,7 @@ pub mod Accepting
 pub mod Rows
 pub mod Typed
 pub mod Runs
+pub mod Lasts
+pub mod Sound
+pub mod Exact
 pub mod Cases
