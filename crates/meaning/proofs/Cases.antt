@@ -36,7 +36,7 @@ abbrev all : List Case → Bool
 all [] = true
 all (c ∷ cs) = and (agrees c) (all cs)
 
--- Run 1's complement, run 2's countdown, run 4's multiplier (its answer's first word is Field 0), run 6's loop for ever.
+-- Run 1's complement, run 2's countdown, run 4's multiplier (its answer's first word is Const 0), run 6's loop for ever.
 abbrev pub complementTable : List ℕ
 complementTable = 20 ∷ 0 ∷ 0 ∷ 0 ∷ []
 
@@ -48,7 +48,7 @@ countdownTable =
 abbrev pub multiplierTable : List ℕ
 multiplierTable =
     12 ∷ 3 ∷ 0 ∷ 0 ∷ 12 ∷ 3 ∷ 1 ∷ 0 ∷ 12 ∷ 3 ∷ 2 ∷ 0 ∷ 9 ∷ 3 ∷ 0 ∷ 0 ∷ 9 ∷ 3 ∷ 1 ∷ 0 ∷
-    2 ∷ 0 ∷ 3 ∷ 0 ∷ 18 ∷ 0 ∷ 0 ∷ 0 ∷ 1 ∷ 5 ∷ 6 ∷ 0 ∷ 2 ∷ 0 ∷ 1 ∷ 0 ∷ 2 ∷ 8 ∷ 2 ∷ 0 ∷
+    2 ∷ 0 ∷ 3 ∷ 0 ∷ 18 ∷ 0 ∷ 0 ∷ 0 ∷ 1 ∷ 5 ∷ 6 ∷ 0 ∷ 2 ∷ 3 ∷ 1 ∷ 0 ∷ 2 ∷ 8 ∷ 2 ∷ 0 ∷
     2 ∷ 0 ∷ 4 ∷ 0 ∷ 14 ∷ 0 ∷ 0 ∷ 0 ∷ 1 ∷ 10 ∷ 11 ∷ 0 ∷ 2 ∷ 1 ∷ 2 ∷ 0 ∷ 13 ∷ 0 ∷ 0 ∷ 0 ∷ 1 ∷ 13 ∷ 14 ∷ 0 ∷
     2 ∷ 12 ∷ 1 ∷ 0 ∷ 2 ∷ 16 ∷ 15 ∷ 0 ∷ 4 ∷ 7 ∷ 9 ∷ 17 ∷ []
 
