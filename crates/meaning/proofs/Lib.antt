@@ -1,5 +1,6 @@
 -- What is shown of the definitions.
 pub mod Tests
+pub mod Lists
 pub mod Decoded
 pub mod Accepted
 pub mod Accepting
@@ -9,4 +10,7 @@ pub mod Runs
 pub mod Lasts
 pub mod Sound
 pub mod Exact
+pub mod Lengths
+pub mod Alike
+pub mod Ranges
 pub mod Cases
