@@ -8,13 +8,14 @@ use mathlib.Core.Logic.{inl, inr}
 use native.Mathlib.Omega.{arith}
 use lib.Dec.{eqb, ltb, leb}
 use lib.ListN.{length}
-use borrow.Author.Tests.{ltb-true, eqb-true, leb-true, lt-ltb, le-leb, lt-leb, eq-eqb, ne-eqb}
+use borrow.Author.Tests.{ltb-true, eqb-true, leb-true, lt-leb, ne-eqb}
 use Rattle.meaning.specs.declared.Verdict.{Verdict}
 use Rattle.meaning.specs.declared.Verdict.the-variants as verdict
-use Rattle.meaning.specs.Choices.{pick, and, or}
+use Rattle.meaning.specs.Choices.{pick, or}
 use Rattle.meaning.specs.Terms.{numberOf, kindOf, count, mainOf}
 use Rattle.meaning.specs.Counts.{ins, outs, wholeSize}
-use Rattle.meaning.specs.Checks.{lengthFits, knownKind, operandsOf, usedOf, unusedZero, valuesFit, operandsBelow, operandTree, testFits, countsFit, parSmall, refusalAt, sizeVerdict, firstRefusal, verdictOf}
+use Rattle.meaning.specs.Checks.{knownKind, operandsOf, usedOf, unusedZero, valuesFit, operandsBelow, operandTree, testFits}
+use Rattle.meaning.specs.Checks.{countsFit, parSmall, refusalAt, sizeVerdict, firstRefusal, verdictOf}
 use Rattle.meaning.proofs.Tests.{clash, split, both, either}
 
 -- Term k passes checks 3 to 8: a row of document 01's table each.
@@ -67,9 +68,9 @@ by-kind k h s p i r c f o =
     elim (split k 13) [ inl d ↦ f (omega arith) | inr d ↦ o d u ]))
 
 -- What no refusal leaves of a choice between going on and a refusal.
-kept : (b : Bool) (x n : ℕ) → 1 ≤ n → pick b x n ≡ 0 → (b ≡ true) × (x ≡ 0)
+kept : (b : Bool) (x n : ℕ) → ltb 0 n ≡ true → pick b x n ≡ 0 → (b ≡ true) × (x ≡ 0)
 kept true x n l h = (refl, h)
-kept false x n l h = absurd (omega arith)
+kept false x n l h = absurd (omega (arith, ltb-true 0 n l))
 
 -- The six tests of a term.
 record Passed (w : ℕ) (t : List ℕ) (k : ℕ) : Type 0 where
@@ -83,12 +84,12 @@ record Passed (w : ℕ) (t : List ℕ) (k : ℕ) : Type 0 where
 passed : (w : ℕ) (t : List ℕ) (k : ℕ) → refusalAt w t k ≡ 0 → Passed w t k
 unfolding refusalAt
 passed w t k h =
-    let a = kept _ _ 3 (omega arith) h in
-    let b = kept _ _ 4 (omega arith) (a .1) in
-    let c = kept _ _ 5 (omega arith) (b .1) in
-    let d = kept _ _ 6 (omega arith) (c .1) in
-    let e = kept _ _ 7 (omega arith) (d .1) in
-    let f = kept _ _ 8 (omega arith) (e .1) in
+    let a = kept _ _ 3 refl h in
+    let b = kept _ _ 4 refl (a .1) in
+    let c = kept _ _ 5 refl (b .1) in
+    let d = kept _ _ 6 refl (c .1) in
+    let e = kept _ _ 7 refl (d .1) in
+    let f = kept _ _ 8 refl (e .1) in
     record { known = a .0; unused = b .0; values = c .0; below = d .0; counts = e .0; few = f .0 }
 
 -- An unused number is 0; an operand is below its term.
@@ -111,11 +112,10 @@ module _ (w : ℕ) (t : List ℕ) (k : ℕ) (p : Passed w t k) where
       (n < 3 → numberOf t k 3 ≡ 0)
   spare n e =
       let a = both _ _ (p .unused) in
-      let b = both _ _ (a .1) in
-      (
-        (λ l. unused-zero 1 (usedOf (kindOf t k)) _ (a .0) (omega arith)),
-        (λ l. unused-zero 2 (usedOf (kindOf t k)) _ (b .0) (omega arith)),
-        (λ l. unused-zero 3 (usedOf (kindOf t k)) _ (b .1) (omega arith)),
+      let b = both _ _ (a .1) in (
+        (λ l. unused-zero 1 (usedOf (kindOf t k)) _ (a .0) (rw e l)),
+        (λ l. unused-zero 2 (usedOf (kindOf t k)) _ (b .0) (rw e l)),
+        (λ l. unused-zero 3 (usedOf (kindOf t k)) _ (b .1) (rw e l)),
       )
 
   operand : (n : ℕ) → operandsOf (kindOf t k) ≡ n → (j : ℕ) → 1 ≤ j → j ≤ n → numberOf t k j < k
@@ -167,17 +167,19 @@ module _ (w : ℕ) (t : List ℕ) (k : ℕ) (p : Passed w t k) where
   unfolding usedOf
   on-const e =
       let u : usedOf (kindOf t k) ≡ 2 = rw e in
+      let z : numberOf t k 3 ≡ 0 = spare 2 u .2 (omega arith) in
       let v = both _ _ (rw e at (p .values)) in
       let m = both _ _ (v .0) in
-      const-fits e (spare 2 u .2 (omega arith)) (leb-true _ _ (m .0)) (leb-true _ _ (m .1)) (ltb-true _ _ (v .1))
+      const-fits e z (leb-true _ _ (m .0)) (leb-true _ _ (m .1)) (ltb-true _ _ (v .1))
 
   on-field : kindOf t k ≡ 12 → Fits w t k
   unfolding usedOf
   on-field e =
       let u : usedOf (kindOf t k) ≡ 2 = rw e in
+      let z : numberOf t k 3 ≡ 0 = spare 2 u .2 (omega arith) in
       let v = both _ _ (rw e at (p .values)) in
       let m = both _ _ (v .0) in
-      field-fits e (spare 2 u .2 (omega arith)) (leb-true _ _ (m .0)) (leb-true _ _ (m .1)) (ltb-true _ _ (v .1))
+      field-fits e z (leb-true _ _ (m .0)) (leb-true _ _ (m .1)) (ltb-true _ _ (v .1))
 
   on-op : 13 ≤ kindOf t k → kindOf t k ≤ 22 → Fits w t k
   unfolding operandsOf usedOf
@@ -211,8 +213,7 @@ unfolding firstRefusal
 none-refused number zero k v h = ((λ j l u. absurd (omega arith)), h)
 none-refused number (suc n) k v h =
     let a = went-on _ _ _ _ h in
-    let r = none-refused number n (suc k) v (a .1) in
-    (
+    let r = none-refused number n (suc k) v (a .1) in (
       (λ j l u. elim (split k j) [
         | inl b ↦ r .0 j b (omega arith)
         | inr b ↦ (let q : j ≡ k = omega arith in rw q (eqb-true _ _ (a .0)))
@@ -226,7 +227,6 @@ accepted w t h =
     let a = went-on _ _ _ _ h in
     let b = went-on _ _ _ _ (a .1) in
     let c = none-refused (refusalAt w t) (count t) 0 (sizeVerdict t) (b .1) in
-    let d = went-on _ _ _ _ (c .1) in
     let width = both _ _ (a .0) in
     let long = both _ _ (b .0) in
     let whole = both _ _ (long .1) in
@@ -238,5 +238,5 @@ accepted w t h =
       four = omega arith;
       some = (omega arith, omega arith);
       fits = λ k i. fits w t k (c .0 k (omega arith) (omega arith));
-      small = leb-true _ _ (d .0);
+      small = leb-true _ _ (went-on _ _ _ _ (c .1) .0);
     }

@@ -2,17 +2,17 @@
 -- do. Assumes nothing.
 use Prim.Native.Nat.{ℕ, zero, suc, _+_, _%_, _≤_, _<_}
 use mathlib.Core.Path.{_≡_, refl}
-use mathlib.Core.Bool.{true, false}
+use mathlib.Core.Bool.{true}
 use mathlib.Core.List.{List}
 use native.Mathlib.Omega.{arith}
-use lib.Dec.{eqb, ltb, leb}
 use lib.ListN.{length}
 use borrow.Author.Tests.{lt-ltb, le-leb, lt-leb, eq-eqb, ne-eqb}
 use Rattle.meaning.specs.declared.Verdict.{Verdict}
 use Rattle.meaning.specs.declared.Verdict.the-variants as verdict
 use Rattle.meaning.specs.Terms.{numberOf, kindOf, count, mainOf}
 use Rattle.meaning.specs.Counts.{wholeSize}
-use Rattle.meaning.specs.Checks.{knownKind, operandsOf, usedOf, valuesFit, operandsBelow, countsFit, parSmall, refusalAt, firstRefusal, verdictOf}
+use Rattle.meaning.specs.Checks.{knownKind, operandsOf, usedOf, valuesFit, operandsBelow, countsFit, parSmall, refusalAt}
+use Rattle.meaning.specs.Checks.{firstRefusal, verdictOf}
 use Rattle.meaning.proofs.Accepted.{Fits, seq-fits, par-fits, ite-fits, rec-fits, const-fits, field-fits, op-fits, Accepted}
 
 module _ (w : ℕ) (t : List ℕ) (k : ℕ) where

@@ -6,7 +6,8 @@ use mathlib.Core.Bool.{Bool, true, false}
 use Rattle.meaning.specs.Choices.{pick, at, padded}
 use Rattle.meaning.specs.Words.{Words}
 use Rattle.meaning.specs.Terms.{Term, leaf, seq, par, ite, rec}
-use Rattle.meaning.specs.Cycles.{Result, unfinished, ended, Evaluator, later, holds, leafWord, iteRest, body, afterBody, afterTest, rounds, evaluate}
+use Rattle.meaning.specs.Cycles.{Result, unfinished, ended, Evaluator, later, holds, iteRest, body, afterBody, afterTest, rounds}
+use Rattle.meaning.specs.Cycles.{evaluate}
 use Rattle.meaning.proofs.Lists.{padded-at}
 
 abbrev pub Alike : Words → Words → Type 0
@@ -38,6 +39,10 @@ module _ (F G : Evaluator) (bf : Blind F) (bg : Blind G) where
       go true = bf (n - c) x y h
       go false = body-alike next (n - c) x y h
 
+  rounds-alike : (E : Evaluator) → Blind E → (m : ℕ) → Blind (rounds E F G m)
+  rounds-alike E be zero n x y h = refl
+  rounds-alike E be (suc m) n x y h = rw (be n x y h) (round-alike (rounds E F G m) n x y h (E n y))
+
 pub alike : (w : ℕ) (T : Term) → Blind (evaluate w T)
 unfolding evaluate
 alike w (leaf k a b) zero x y h = refl
@@ -47,9 +52,7 @@ alike w (par f g) n x y h = cc (alike w f n x y h, alike w g n x y h)
 alike w (ite e f g) n x y h =
     rw (alike w e n x y h) (ite-alike (evaluate w f) (evaluate w g) (alike w f) (alike w g) n x y h (evaluate w e n y))
 alike w (rec e f g) n x y h =
-    rw (alike w e n x y h)
-    (round-alike (evaluate w f) (evaluate w g) (alike w f) (alike w g) (rounds (evaluate w e) (evaluate w f) (evaluate w g) n) n x y h
-    (evaluate w e n y))
+    rounds-alike (evaluate w f) (evaluate w g) (alike w f) (alike w g) (evaluate w e) (alike w e) (suc n) n x y h
 
 pub padded-evaluates : (w : ℕ) (T : Term) (n m : ℕ) (x : Words) → evaluate w T n (padded m x) ≡ evaluate w T n x
 padded-evaluates w T n m x = alike w T n (padded m x) x (padded-at m x)

@@ -7,8 +7,7 @@ use mathlib.Core.Logic.{inl, inr}
 use native.Mathlib.Omega.{arith}
 use lib.Dec.{eqb}
 use borrow.Author.Tests.{eq-eqb, ne-eqb}
-use Rattle.meaning.specs.Choices.{pick}
-use Rattle.meaning.specs.Terms.{numberOf, kindOf, Term, leaf, seq, par, ite, rec, nodeOf, below, tree}
+use Rattle.meaning.specs.Terms.{numberOf, kindOf, leaf, seq, par, ite, rec, nodeOf, below, tree}
 use Rattle.meaning.proofs.Tests.{split}
 
 -- The terms below n hold term k, whatever n is above k.

@@ -2,17 +2,14 @@
 -- Assumes nothing.
 use Prim.Native.Nat.{ℕ, _+_, _-_, _≤_, _<_}
 use mathlib.Core.Path.{_≡_, sym, ap, _∙_}
-use mathlib.Core.Bool.{true, false}
 use mathlib.Core.Logic.{inl, inr}
 use native.Mathlib.Omega.{arith}
 use Rattle.meaning.specs.Words.{Words}
-use Rattle.meaning.specs.Terms.{Term, ite, rec}
+use Rattle.meaning.specs.Terms.{Term}
 use Rattle.meaning.specs.Cycles.{holds}
-use Rattle.meaning.specs.Published.{
-  Runs, leaf-runs, seq-runs, par-runs, then-runs, else-runs, last-runs, more-runs,
-  Lasts, leaf-lasts, first-lasts, second-lasts, left-lasts, right-lasts, if-lasts, then-lasts, else-lasts,
-  test-lasts, last-lasts, body-lasts, feed-lasts, more-lasts,
-}
+use Rattle.meaning.specs.Published.{Runs, leaf-runs, seq-runs, par-runs, then-runs, else-runs, last-runs, more-runs, Lasts}
+use Rattle.meaning.specs.Published.{leaf-lasts, first-lasts, second-lasts, left-lasts, right-lasts, if-lasts, then-lasts, else-lasts}
+use Rattle.meaning.specs.Published.{test-lasts, last-lasts, body-lasts, feed-lasts, more-lasts}
 use Rattle.meaning.proofs.Tests.{clash, split}
 use Rattle.meaning.proofs.Runs.{once}
 

@@ -1,7 +1,6 @@
 -- Law: a well-typed term gives as many words as its type says. Assumes nothing.
 use Prim.Native.Nat.{ℕ}
 use mathlib.Core.Path.{_≡_, _∙_, ap}
-use native.Mathlib.Omega.{arith}
 use lib.ListN.{length, length-append}
 use Rattle.meaning.specs.Words.{Words}
 use Rattle.meaning.specs.Terms.{Term}

@@ -16,7 +16,8 @@ use Rattle.meaning.specs.Terms.{Term}
 use Rattle.meaning.specs.Cycles.{ended, leafWord, evaluate}
 use Rattle.meaning.specs.Published.{Runs, leaf-runs, seq-runs, par-runs, then-runs, else-runs, last-runs, more-runs}
 use Rattle.meaning.proofs.Lists.{append-all}
-use Rattle.meaning.proofs.Typed.{LeafFits, const-leaf, field-leaf, op-leaf, Typed, leaf-typed, seq-typed, par-typed, ite-typed, rec-typed}
+use Rattle.meaning.proofs.Typed.{LeafFits, const-leaf, field-leaf, op-leaf, Typed, leaf-typed, seq-typed, par-typed, ite-typed}
+use Rattle.meaning.proofs.Typed.{rec-typed}
 use Rattle.meaning.proofs.Exact.{ended-runs}
 
 num-le : (b : Bool) → num b ≤ 1

@@ -4,7 +4,7 @@ use Prim.Native.Nat.{ℕ, _+_, _^_, _≤_, _<_}
 use mathlib.Core.Path.{_≡_}
 use mathlib.Core.List.{List}
 use native.Mathlib.Omega.{arith}
-use Rattle.meaning.specs.Terms.{numberOf, kindOf, Term, leaf, seq, par, ite, rec, tree}
+use Rattle.meaning.specs.Terms.{numberOf, kindOf, leaf, seq, par, ite, rec, tree}
 use Rattle.meaning.specs.Counts.{ins, outs}
 use Rattle.meaning.specs.Checks.{operandTree}
 use Rattle.meaning.proofs.Decoded.{tree-seq, tree-par, tree-ite, tree-rec, tree-leaf-from}

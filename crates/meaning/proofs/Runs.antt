@@ -1,9 +1,9 @@
 -- Law: a published run takes a cycle at least, and a term runs in one way only on given words. Assumes nothing.
-use Prim.Native.Nat.{ℕ, _+_, _≤_}
+use Prim.Native.Nat.{ℕ, _≤_}
 use mathlib.Core.Path.{_≡_, sym, ap, _∙_}
 use native.Mathlib.Omega.{arith}
 use Rattle.meaning.specs.Words.{Words}
-use Rattle.meaning.specs.Terms.{Term, rec}
+use Rattle.meaning.specs.Terms.{Term}
 use Rattle.meaning.specs.Cycles.{holds}
 use Rattle.meaning.specs.Published.{Runs, leaf-runs, seq-runs, par-runs, then-runs, else-runs, last-runs, more-runs}
 use Rattle.meaning.proofs.Tests.{clash}

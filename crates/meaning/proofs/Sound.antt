@@ -1,22 +1,17 @@
 -- Law: evaluation within a budget says what is published: words and cycles of a run within it, or that the term lasts longer.
 -- The circuit's proof goes on from this, and never from an equation about `evaluate`. Assumes nothing.
-use Prim.Native.Nat.{ℕ, zero, suc, _+_, _-_, _≤_, _<_, max}
+use Prim.Native.Nat.{ℕ, zero, suc, _+_, _-_, _≤_, _<_}
 use mathlib.Core.Path.{_≡_, refl}
 use mathlib.Core.Bool.{Bool, true, false}
-use mathlib.Core.Logic.{inl, inr}
 use native.Mathlib.Omega.{arith}
 use Rattle.meaning.specs.Choices.{pick}
 use Rattle.meaning.specs.Words.{Words}
 use Rattle.meaning.specs.Terms.{Term, leaf, seq, par, ite, rec}
-use Rattle.meaning.specs.Cycles.{
-  Result, unfinished, ended, Evaluator, later, holds, seqRest, beside, branch, iteRest, feedBack, afterBody, body, afterTest, rounds,
-  evaluate,
-}
-use Rattle.meaning.specs.Published.{
-  Runs, leaf-runs, seq-runs, par-runs, then-runs, else-runs, last-runs, more-runs,
-  Lasts, leaf-lasts, first-lasts, second-lasts, left-lasts, right-lasts, if-lasts, then-lasts, else-lasts,
-  test-lasts, last-lasts, body-lasts, feed-lasts, more-lasts,
-}
+use Rattle.meaning.specs.Cycles.{Result, unfinished, ended, Evaluator, later, holds, seqRest, beside, iteRest, feedBack, afterBody}
+use Rattle.meaning.specs.Cycles.{body, afterTest, rounds, evaluate}
+use Rattle.meaning.specs.Published.{Runs, leaf-runs, seq-runs, par-runs, then-runs, else-runs, last-runs, more-runs, Lasts}
+use Rattle.meaning.specs.Published.{leaf-lasts, first-lasts, second-lasts, left-lasts, right-lasts, if-lasts, then-lasts, else-lasts}
+use Rattle.meaning.specs.Published.{test-lasts, last-lasts, body-lasts, feed-lasts, more-lasts}
 use Rattle.meaning.proofs.Runs.{positive}
 
 -- What a result within n cycles says of a term on words.
