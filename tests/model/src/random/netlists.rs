@@ -3,7 +3,7 @@
 
 use super::Random;
 use crate::cells::{is_bit, is_register, is_word};
-use crate::compile::compile;
+use crate::toolchain::{Model, Toolchain};
 use crate::MOST_WORDS;
 
 /// A netlist with the ports that the writer needs.
@@ -20,10 +20,15 @@ pub struct Ported {
     pub outs: [u32; MOST_WORDS],
 }
 
-/// Gives the netlist and the ports that the compiler makes of an accepted table.
+/// Gives the netlist and the ports that the model's compiler makes of an accepted table.
 pub fn compiled(width: u32, table: &[u32]) -> Ported {
+    compiled_by(&Model, width, table)
+}
+
+/// Gives the netlist and the ports that a toolchain's compiler makes of an accepted table.
+pub fn compiled_by(toolchain: &dyn Toolchain, width: u32, table: &[u32]) -> Ported {
     let mut netlist = vec![0; 16384];
-    let answer = compile(width, table, &mut netlist);
+    let answer = toolchain.compile(width, table, &mut netlist);
     assert_eq!(answer[0], 0, "the table is accepted");
     netlist.truncate(4 * answer[2] as usize);
     let outs = answer[6..].try_into().expect("the last 16 of 22 numbers");
