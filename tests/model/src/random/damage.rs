@@ -50,7 +50,7 @@ pub fn netlist(random: &mut Random) -> (u32, Vec<u32>) {
 fn length(random: &mut Random, numbers: &mut Vec<u32>, over: usize) {
     match random.below(4) {
         0 => numbers.clear(),
-        1 => numbers.truncate(numbers.len() - 1),
+        1 => numbers.truncate(numbers.len().saturating_sub(1)),
         2 => numbers.extend(&[0, 0, 0][..random.between(1, 3) as usize]),
         _ if numbers.is_empty() => {}
         _ => *numbers = numbers.iter().copied().cycle().take(over).collect(),
