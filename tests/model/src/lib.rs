@@ -6,7 +6,7 @@
 //!
 //! - `words`: numbers below 2^W and the operations on them;
 //! - `table`: checks 1 to 9, word counts and sizes;
-//! - `evaluate`: the words and cycles of a table on given words;
+//! - `evaluate`: the words and cycles of a table on given words, with `straight` for long loops;
 //! - `compile`: from a table to cells;
 //! - `cells`: checks 12 to 16;
 //! - `simulate`: one cycle of a netlist;
@@ -23,6 +23,7 @@ pub mod icarus;
 pub mod program;
 pub mod random;
 pub mod simulate;
+pub mod straight;
 pub mod table;
 pub mod toolchain;
 pub mod verilog;
