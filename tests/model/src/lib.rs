@@ -14,10 +14,11 @@
 //! - `program`: what the program prints for its input.
 //!
 //! Besides these, `toolchain` names the five calls so that another implementation can stand in,
-//! `random` makes inputs of every sort, and `icarus` compares wires with Icarus Verilog.
+//! `random` makes inputs of every sort, `differ` compares two implementations on whole calls, and `icarus` compares wires with Icarus Verilog.
 
 pub mod cells;
 pub mod compile;
+pub mod differ;
 pub mod evaluate;
 pub mod icarus;
 pub mod program;

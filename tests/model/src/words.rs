@@ -7,13 +7,13 @@ pub fn is_width(width: u32) -> bool {
 }
 
 /// Gives the largest word of a width from 1 to 32.
-#[inline]
+#[inline(always)]
 pub fn largest(width: u32) -> u32 {
     u32::MAX >> (32 - width)
 }
 
 /// Gives what an operation of kind 13 to 22 makes of its words; kinds 20 to 22 ignore the second.
-#[inline]
+#[inline(always)]
 pub fn apply(width: u32, kind: u32, x: u32, y: u32) -> u32 {
     let result = match kind {
         13 => x.wrapping_add(y),

@@ -3,8 +3,10 @@
 //! - `tables`: term tables that are accepted;
 //! - `netlists`: netlists that pass the cell checks and that no compiler made;
 //! - `damage`: tables and netlists with one fault or two;
+//! - `calls`: whole calls of each part, with faults in any argument;
 //! - `streams`: what the outside does to a circuit, cycle by cycle.
 
+pub mod calls;
 pub mod damage;
 pub mod netlists;
 pub mod streams;
