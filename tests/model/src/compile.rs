@@ -82,7 +82,8 @@ impl Emission<'_> {
     fn whole(&mut self) -> Block {
         let main = self.facts.main();
         let load = self.cell(0, 0, 0, 0);
-        let inputs: Vec<u32> = (0..self.facts.inputs[main]).map(|n| self.cell(8, n, 0, 0)).collect();
+        let inputs: Vec<u32> =
+            (0..self.facts.inputs[main]).map(|n| self.cell(8, n, 0, 0)).collect();
         let before = self.cell(5, load, 0, 0);
         let low = self.cell(1, before, 0, 0);
         let idle = self.cell(5, 0, 0, 0);

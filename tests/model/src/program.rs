@@ -48,7 +48,8 @@ pub fn numbers(input: &[u8]) -> Option<Vec<u32>> {
     if input.len() > MOST_BYTES {
         return None;
     }
-    let pieces = input.split(|&byte| byte == b' ' || byte == b'\n').filter(|piece| !piece.is_empty());
+    let pieces =
+        input.split(|&byte| byte == b' ' || byte == b'\n').filter(|piece| !piece.is_empty());
     let numbers = pieces.map(number).collect::<Option<Vec<u32>>>()?;
     (1..=MOST_NUMBERS).contains(&numbers.len()).then_some(numbers)
 }

@@ -23,7 +23,14 @@ impl Toolchain for Crooked {
         answer
     }
 
-    fn power_up(&self, w: u32, n: &[u32], load: bool, words: &[u32], wires: &mut [u32]) -> [u32; 2] {
+    fn power_up(
+        &self,
+        w: u32,
+        n: &[u32],
+        load: bool,
+        words: &[u32],
+        wires: &mut [u32],
+    ) -> [u32; 2] {
         Model.power_up(w, n, load, words, wires)
     }
 
@@ -86,8 +93,7 @@ fn calls_reach_every_number_of_every_part() {
     ];
     for (part, numbers) in reached.iter().enumerate() {
         println!("{:?}", seen[part]);
-        for number in 0..21 {
-            let often = seen[part][number];
+        for (number, &often) in seen[part].iter().enumerate() {
             assert_eq!(often > 0, numbers.contains(&number), "part {part}, number {number}");
         }
     }

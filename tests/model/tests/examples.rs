@@ -64,6 +64,24 @@ fn the_maze_circuit_leaves_it_too() {
     assert!(outs.eq([1 << 29, 2, 37]));
 }
 
+/// The drawing in the README shows the openings that the table's two map constants hold.
+#[test]
+fn the_map_is_as_drawn() {
+    let path = format!("{}/../../examples/README.md", env!("CARGO_MANIFEST_DIR"));
+    let text = std::fs::read_to_string(path).expect("the README is there");
+    let drawn = |line: &&[u8]| line.len() == 31 && matches!(line[0], b'+' | b'|');
+    let rows: Vec<&[u8]> = text.lines().map(str::as_bytes).filter(drawn).collect();
+    assert_eq!(rows.len(), 11, "five rows of rooms between six of walls");
+    let (mut right, mut down) = (0u32, 0u32);
+    for room in 0..30 {
+        let (x, y) = (room % 6, room / 6);
+        right |= u32::from(rows[2 * y + 1][5 * x + 5] == b' ') << room;
+        down |= u32::from(rows[2 * y + 2][5 * x + 2] == b' ') << room;
+    }
+    let (_, table) = example("maze");
+    assert_eq!([right, down], [table[4 * 3 + 2], table[4 * 4 + 2]]);
+}
+
 /// The body of the loop stands alone as a table: each of its runs is one round of the walk.
 #[test]
 fn the_path_is_as_drawn() {

@@ -39,7 +39,7 @@ fn traces(width: u32, circuit: &Ported, stream: &[Moment]) -> Vec<Vec<u32>> {
     wires
 }
 
-/// Gives what a run that begins in this cycle owes within the cycles that are left.
+/// Gives what a run that begins in this cycle owes; no stream is as long as the budget here.
 fn owed(width: u32, table: &[u32], moment: &Moment, t: usize, tally: &mut Tally) -> Run {
     let answer = evaluate(width, table, &moment.words, 1_000_000);
     assert_eq!(answer[..2], [0, 0]);
@@ -72,7 +72,8 @@ fn check(width: u32, table: &[u32], circuit: &Ported, stream: &[Moment], tally: 
                 assert_eq!(done(t), over, "done at cycle {t} of {table:?}");
                 if over {
                     let outs = &circuit.outs[..circuit.o as usize];
-                    let words: Vec<u32> = outs.iter().map(|&wire| wires[t][wire as usize]).collect();
+                    let words: Vec<u32> =
+                        outs.iter().map(|&wire| wires[t][wire as usize]).collect();
                     assert_eq!(words, run.words, "words at cycle {t} of {table:?}");
                 }
             }
@@ -94,7 +95,9 @@ fn circuits_keep_the_promise() {
         check(width, &table, &circuit, &stream, &mut tally);
     }
     let Tally { ended, endless, ignored, longest } = tally;
-    println!("{ended} runs end, {endless} don't, {ignored} rises ignored, longest {longest} cycles");
+    println!(
+        "{ended} runs end, {endless} don't, {ignored} rises ignored, longest {longest} cycles"
+    );
     assert!(ended > 10_000 && endless > 100 && ignored > 1_000 && longest > 300);
 }
 

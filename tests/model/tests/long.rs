@@ -41,14 +41,14 @@ fn straight_line_code_gives_the_same() {
         let table = accepted(&mut random, width, terms, 2000);
         let facts = model::table::check(width, &table).expect("accepted");
         let words = random.words(width, facts.inputs[facts.main()]);
-        let plain = evaluate_with(width, &table, &words, 5_000, u32::MAX);
-        ended += plain[2];
-        let cycles = if plain[2] == 1 { plain[3] } else { 5_000 };
+        let whole = evaluate_with(width, &table, &words, 5_000, u32::MAX);
+        ended += whole[2];
+        let cycles = if whole[2] == 1 { whole[3] } else { 5_000 };
         for budget in [cycles, cycles - 1, cycles / 2, 5_000] {
             let plain = evaluate_with(width, &table, &words, budget, u32::MAX);
+            assert_eq!(plain, if budget < cycles { [0; 21] } else { whole });
             assert_eq!(evaluate_with(width, &table, &words, budget, 0), plain);
             assert_eq!(evaluate_with(width, &table, &words, budget, 3), plain);
-            assert_eq!(plain[2] == 1, ended > 0 && plain[3] > 0 && plain[3] <= budget);
         }
     }
     assert!(ended > 3_000);

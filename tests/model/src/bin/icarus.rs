@@ -20,7 +20,8 @@ struct Wish {
 
 /// Reads the command line.
 fn wish() -> Option<Wish> {
-    let numbers: Vec<u64> = std::env::args().skip(1).map(|a| a.parse().ok()).collect::<Option<_>>()?;
+    let numbers: Vec<u64> =
+        std::env::args().skip(1).map(|a| a.parse().ok()).collect::<Option<_>>()?;
     let [seed, tables, foreign, cycles] = numbers[..] else { return None };
     let [tables, foreign, cycles] = [tables, foreign, cycles].map(|n| n as usize);
     (cycles > 0).then_some(Wish { seed, tables, foreign, cycles })
@@ -81,7 +82,11 @@ fn main() -> ExitCode {
     match outcome {
         Ok((passed, failed)) => {
             println!("{passed} passed, {failed} failed");
-            if failed == 0 { ExitCode::SUCCESS } else { ExitCode::FAILURE }
+            if failed == 0 {
+                ExitCode::SUCCESS
+            } else {
+                ExitCode::FAILURE
+            }
         }
         Err(error) => {
             println!("{error}");

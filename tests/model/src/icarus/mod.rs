@@ -46,7 +46,8 @@ pub fn design(
     let mut random = Random::new(random.bits() ^ number as u64);
     let width = random.width();
     let circuit = if origin == Origin::Table {
-        let (terms, cells) = (random.pick(&[8, 20, 60]), random.pick(&[60, 200, 600]));
+        let terms = random.pick(&[8, 20, 60, 256]);
+        let cells = random.pick(&[60, 60, 200, 200, 600, 600, 600, 4096]);
         let table = accepted(&mut random, width, terms as usize, cells);
         compiled_by(toolchain, width, &table)
     } else {

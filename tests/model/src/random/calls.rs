@@ -10,9 +10,24 @@ use crate::MOST_WORDS;
 
 /// A call with all its arguments; `length` is that of the lent buffer.
 pub enum Call {
-    Evaluate { width: u32, table: Vec<u32>, words: Vec<u32>, budget: u32 },
-    Compile { width: u32, table: Vec<u32>, length: usize },
-    PowerUp { width: u32, netlist: Vec<u32>, load: bool, words: Vec<u32>, length: usize },
+    Evaluate {
+        width: u32,
+        table: Vec<u32>,
+        words: Vec<u32>,
+        budget: u32,
+    },
+    Compile {
+        width: u32,
+        table: Vec<u32>,
+        length: usize,
+    },
+    PowerUp {
+        width: u32,
+        netlist: Vec<u32>,
+        load: bool,
+        words: Vec<u32>,
+        length: usize,
+    },
     Step {
         width: u32,
         netlist: Vec<u32>,
@@ -21,7 +36,11 @@ pub enum Call {
         words: Vec<u32>,
         length: usize,
     },
-    Write { width: u32, circuit: Ported, length: usize },
+    Write {
+        width: u32,
+        circuit: Ported,
+        length: usize,
+    },
 }
 
 /// Makes a call of any part.
@@ -117,7 +136,11 @@ fn simulate(random: &mut Random) -> Call {
 
 /// Gives a length that is off by one.
 fn near(random: &mut Random, length: usize) -> usize {
-    if random.chance(50) { length + 1 } else { length.saturating_sub(1) }
+    if random.chance(50) {
+        length + 1
+    } else {
+        length.saturating_sub(1)
+    }
 }
 
 /// Makes wires that the cells could drive, whether they fit together or not; at times some can't be.

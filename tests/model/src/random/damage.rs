@@ -93,6 +93,9 @@ fn number(random: &mut Random, width: u32, numbers: &mut [u32]) {
     let small = random.between(0, 24);
     let choices = [small, small, small, limit, limit.wrapping_add(1), u32::MAX, 16, 17];
     let kinds = [0, 5, 6, 7, 8, 10, 11, 23, 9, 12, 4, 3, 2, 1];
-    numbers[place as usize] =
-        if random.chance(40) && place % 4 == 0 { random.pick(&kinds) } else { random.pick(&choices) };
+    numbers[place as usize] = if random.chance(40) && place.is_multiple_of(4) {
+        random.pick(&kinds)
+    } else {
+        random.pick(&choices)
+    };
 }
