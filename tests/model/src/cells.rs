@@ -84,7 +84,8 @@ fn check_cell(width: u32, netlist: &[u32], own: usize) -> Result<(), u32> {
     if any(&|role, n| matches!(role, Role::Bit | Role::Word) && n as usize >= end) {
         return Err(15);
     }
-    // A register may read a later cell of unknown kind: that cell is refused 13 when its turn comes.
+    // A register may read a later cell of unknown kind: that cell is refused 13 when its turn
+    // comes.
     let mixed = |role, n: u32| match role {
         Role::Bit => is_word(netlist[4 * n as usize]),
         Role::Word => is_bit(netlist[4 * n as usize]),

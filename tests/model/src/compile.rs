@@ -164,8 +164,8 @@ impl Emission<'_> {
         Block { done, outputs }
     }
 
-    /// Adds a loop; g's answer comes back through registers, and done stays low in the cycle between
-    /// two rounds.
+    /// Adds a loop; g's answer comes back through registers, and done stays low in the cycle
+    /// between two rounds.
     fn rec(&mut self, [e, f, g]: [usize; 3], s: u32, inputs: &[u32]) -> Block {
         let again = self.cell(4, 0, 0, 0);
         let back: Vec<u32> = inputs.iter().map(|_| self.cell(10, 0, 0, 0)).collect();

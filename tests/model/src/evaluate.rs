@@ -1,9 +1,10 @@
 //! Evaluates a table on given words: the words it gives and the cycles it takes.
 //! Refuses 1 to 9 and 11. Document 01: "Term tables", "Cycles".
 //!
-//! Rounds of a loop are turns of a Rust loop and not calls, so that long runs need no stack. A loop
-//! whose words come back to what they were never ends, whatever the budget: that is noticed, and
-//! answered as unfinished at once. A loop that has gone round often goes on as straight-line code.
+//! Rounds of a loop are turns of a Rust loop and not calls, so that long runs need no stack. A
+//! loop whose words come back to what they were never ends, whatever the budget: that is noticed,
+//! and answered as unfinished at once. A loop that has gone round often goes on as straight-line
+//! code.
 
 use crate::straight::{body, Body};
 use crate::table::{check, Facts};
@@ -95,7 +96,8 @@ impl Machine<'_> {
         }
     }
 
-    /// Gives the words of f and then of g; each side has the whole budget, as they run side by side.
+    /// Gives the words of f and then of g; each side has the whole budget, as they run side by
+    /// side.
     fn pair(&self, f: usize, g: usize, input: &Words, budget: u32) -> Option<(Words, u32)> {
         let (mut output, first) = self.term(f, input, budget)?;
         let (second_output, second) = self.term(g, input, budget)?;
@@ -105,8 +107,8 @@ impl Machine<'_> {
     }
 
     /// Runs a loop round by round until its test holds; gives the words and the budget left then.
-    /// The remembered words move on at rounds 1, 2, 4, 8 and so on, which meets every cycle of words
-    /// within a few times its length.
+    /// The remembered words move on at rounds 1, 2, 4, 8 and so on, which meets every cycle of
+    /// words within a few times its length.
     fn rounds(&self, term: usize, input: &Words, budget: u32) -> Option<(Words, u32)> {
         let [e, g] = [1, 3].map(|n| self.table[4 * term + n] as usize);
         let (mut state, mut left) = (*input, budget);

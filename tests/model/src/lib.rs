@@ -1,8 +1,8 @@
 //! An independent model of document 01, written from that document alone.
 //!
 //! It answers what every part of the toolchain has to answer, so that other implementations can be
-//! compared with it. It favours the document's own words over speed, and depends on nothing but the
-//! standard library. The modules follow the document's order:
+//! compared with it. It favours the document's own words over speed, and depends on nothing but
+//! the standard library. The modules follow the document's order:
 //!
 //! - `words`: numbers below 2^W and the operations on them;
 //! - `table`: checks 1 to 9, word counts and sizes;
@@ -14,7 +14,8 @@
 //! - `program`: what the program prints for its input.
 //!
 //! Besides these, `toolchain` names the five calls so that another implementation can stand in,
-//! `random` makes inputs of every sort, `differ` compares two implementations on whole calls, and `icarus` compares wires with Icarus Verilog.
+//! `random` makes inputs of every sort, `differ` compares two implementations on whole calls, and
+//! `icarus` compares wires with Icarus Verilog.
 
 pub mod cells;
 pub mod compile;

@@ -6,7 +6,8 @@ use crate::cells::{check, is_bit};
 use crate::words::{apply, largest};
 use crate::{Refusal, MOST_WORDS};
 
-/// Writes the wires of cycle 0, in which registers hold their starting values; answers number, place.
+/// Writes the wires of cycle 0, in which registers hold their starting values; answers number,
+/// place.
 pub fn power_up(
     width: u32,
     netlist: &[u32],

@@ -1,14 +1,16 @@
-//! Turns the test and the body of a loop into straight-line code, where neither holds a loop itself,
-//! so that long loops take nanoseconds a round and not a walk over terms.
+//! Turns the test and the body of a loop into straight-line code, where neither holds a loop
+//! itself, so that long loops take nanoseconds a round and not a walk over terms.
 //!
-//! Cycles are values as any other: a sum behind Seq, the larger behind Par, a choice behind Ite. Both
-//! branches of a choice are computed, which is harmless as they end. Equal values share a slot.
+//! Cycles are values as any other: a sum behind Seq, the larger behind Par, a choice behind Ite.
+//! Both branches of a choice are computed, which is harmless as they end. Equal values share a
+//! slot.
 
 use crate::words::apply;
 use crate::MOST_WORDS;
 use std::collections::HashMap;
 
-/// Slots of a loop. A block of 4,096 cells has fewer values, and a power of two needs no bound checks.
+/// Slots of a loop. A block of 4,096 cells has fewer values, and a power of two needs no bound
+/// checks.
 const SLOTS: usize = 8192;
 
 /// Kinds of steps besides the operations 13 to 22: x if it isn't 0 gives y, else z; x plus y; the
@@ -146,8 +148,8 @@ impl Draft<'_> {
 }
 
 impl Body {
-    /// Runs rounds until the test holds; gives the words and the budget that is left then, or nothing
-    /// where the budget is used up or the words come back to what they were.
+    /// Runs rounds until the test holds; gives the words and the budget that is left then, or
+    /// nothing where the budget is used up or the words come back to what they were.
     pub fn run(&self, words: [u32; MOST_WORDS], budget: u32) -> Option<([u32; MOST_WORDS], u32)> {
         let mut slots = [0; SLOTS];
         slots[..self.slots.len()].copy_from_slice(&self.slots);

@@ -92,7 +92,8 @@ fn rec_on_two_words() {
     assert_eq!(kinds, [4, 10, 10, 3, 11, 11, 10, 11, 10, 11, 1, 10]);
     assert_eq!(all[12..14], [[11, 8, 9, 1], [11, 8, 10, 2]]);
     assert_eq!(all[14..18], [[10, 15, 0, 0], [11, 11, 12, 14], [10, 17, 0, 0], [11, 11, 13, 16]]);
-    // f is at 29 to 37 and g at 38 to 46: the second word of a Par lies four cells behind the first.
+    // f is at 29 to 37 and g at 38 to 46: the second word of a Par lies four cells behind the
+    // first.
     assert_eq!(all[9..11], [[10, 39, 0, 0], [10, 43, 0, 0]]);
     assert_eq!((done, outs), (53, vec![30, 34]));
 }

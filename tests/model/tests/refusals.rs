@@ -100,7 +100,8 @@ fn tables_7_to_10() {
     assert_eq!(compile(8, &[20, 0, 0, 0], &mut [5; 44])[..3], [0, 0, 11]);
 }
 
-/// A choice around two sums has 58 cells; behind six chains of Seq these are 4,090, and 7 in front.
+/// A choice around two sums has 58 cells; behind six chains of Seq these are 4,090, and 7 in
+/// front.
 #[test]
 fn one_cell_over_is_refused_9() {
     let mut terms = vec![[20, 0, 0, 0]];

@@ -1,6 +1,6 @@
-//! `icarus SEED COUNT_TABLES COUNT_FOREIGN CYCLES`: compares the model's wires with Icarus Verilog on
-//! so many compiled tables and foreign netlists. Prints the first difference; ends with a failure
-//! where there is one.
+//! `icarus SEED COUNT_TABLES COUNT_FOREIGN CYCLES`: compares the model's wires with Icarus Verilog
+//! on so many compiled tables and foreign netlists. Prints the first difference; ends with a
+//! failure where there is one.
 
 use model::icarus::{compare, design, simulate, Design, Origin};
 use model::toolchain::{Model, Toolchain};

@@ -27,8 +27,8 @@ pub fn stimuli(design: &Design) -> String {
 
 /// Gives a module that waits for its turn, so that no two designs print at the same time.
 ///
-/// Clock and stimuli never change together with a rising edge: a cycle's wires are printed when all
-/// has settled, just before the edge that ends it. Cycle 0 is printed before the first edge.
+/// Clock and stimuli never change together with a rising edge: a cycle's wires are printed when
+/// all has settled, just before the edge that ends it. Cycle 0 is printed before the first edge.
 pub fn bench(design: &Design, stimuli: &str, place: usize) -> String {
     let (number, cycles, top) = (design.number, design.stream.len(), design.width - 1);
     let inputs = names("inp", design.circuit.i);

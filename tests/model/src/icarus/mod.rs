@@ -1,5 +1,5 @@
-//! Compares the wires that a toolchain gives with those that Icarus Verilog gives for its text, wire
-//! by wire and cycle by cycle. Needs `iverilog` and `vvp`.
+//! Compares the wires that a toolchain gives with those that Icarus Verilog gives for its text,
+//! wire by wire and cycle by cycle. Needs `iverilog` and `vvp`.
 //!
 //! A design is made from the seed and its own number alone, so that one that differs can be made
 //! again without the others. Many designs share one run of the simulator, which is what costs.

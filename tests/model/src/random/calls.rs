@@ -1,5 +1,6 @@
-//! Makes whole calls of each part, most of them sound and the rest with faults in table or netlist,
-//! in lengths, in words, in wires and in ports, at times in several: all refusal numbers come up.
+//! Makes whole calls of each part, most of them sound and the rest with faults in table or
+//! netlist, in lengths, in words, in wires and in ports, at times in several: all refusal numbers
+//! come up.
 
 use super::netlists::{compiled, foreign, Ported};
 use super::tables::accepted;
@@ -143,7 +144,8 @@ fn near(random: &mut Random, length: usize) -> usize {
     }
 }
 
-/// Makes wires that the cells could drive, whether they fit together or not; at times some can't be.
+/// Makes wires that the cells could drive, whether they fit together or not; at times some can't
+/// be.
 fn wires(random: &mut Random, width: u32, netlist: &[u32]) -> Vec<u32> {
     let bad = if random.chance(15) { 5 } else { 0 };
     let mut wires = vec![];

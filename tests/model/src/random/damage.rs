@@ -1,5 +1,5 @@
-//! Makes tables and netlists with a fault or two, so that every refusal comes up, alone and against
-//! others. A fault may miss, so that what comes out is at times accepted.
+//! Makes tables and netlists with a fault or two, so that every refusal comes up, alone and
+//! against others. A fault may miss, so that what comes out is at times accepted.
 
 use super::netlists::{compiled, foreign};
 use super::tables::accepted;
@@ -57,8 +57,8 @@ fn length(random: &mut Random, numbers: &mut Vec<u32>, over: usize) {
     }
 }
 
-/// Adds a chain in which every term uses the one before twice: by Seq (1) it passes the cell limit,
-/// by Par (2) it passes 16 words.
+/// Adds a chain in which every term uses the one before twice: by Seq (1) it passes the cell
+/// limit, by Par (2) it passes 16 words.
 fn double(table: &mut Vec<u32>, kind: u32) {
     let first = (table.len() / 4) as u32;
     table.extend([20, 0, 0, 0]);

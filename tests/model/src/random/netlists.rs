@@ -1,5 +1,5 @@
-//! Makes random netlists that pass the cell checks and that no compiler made: every kind, registers
-//! that read forward, backward and themselves, wires that nobody reads.
+//! Makes random netlists that pass the cell checks and that no compiler made: every kind,
+//! registers that read forward, backward and themselves, wires that nobody reads.
 
 use super::Random;
 use crate::cells::{is_bit, is_register, is_word};

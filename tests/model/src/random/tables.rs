@@ -13,7 +13,7 @@ struct Growth<'a> {
     counts: Vec<(u32, u32)>,
 }
 
-/// Makes an accepted table with at most so many terms and cells, both of which should be 8 or more.
+/// Makes an accepted table with at most so many terms and cells; the smallest circuit has 11 cells.
 pub fn accepted(random: &mut Random, width: u32, terms: usize, cells: u32) -> Vec<u32> {
     loop {
         let table = attempt(random, width, terms);
