@@ -2,4 +2,11 @@
 pub mod Lengths
 pub mod Places
 pub mod Sized
+pub mod Streams
+pub mod Behaves
+pub mod LeafBlock
+pub mod SeqBlock
+pub mod ParBlock
+pub mod Branching
+pub mod IteBlock
 pub mod Cases
