@@ -10,7 +10,6 @@ use Rattle.meaning.specs.Terms.{Term, ite}
 use Rattle.meaning.specs.Cycles.{holds}
 use Rattle.meaning.specs.Published.{Runs, then-runs, else-runs, Lasts, if-lasts, then-lasts, else-lasts}
 use Rattle.meaning.proofs.Runs.{positive}
-use Rattle.circuit.specs.Pieces.{rise}
 use Rattle.circuit.specs.Promise.{Low}
 use Rattle.circuit.proofs.Streams.{Bits, Wires, and-false, low-from, low-part, kept-word}
 use Rattle.circuit.proofs.Behaves.{Starts, part-starts, BehavesAs, stay, rest-low, after-low, after-register, pulse}

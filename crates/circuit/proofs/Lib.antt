@@ -9,4 +9,7 @@ pub mod SeqBlock
 pub mod ParBlock
 pub mod Branching
 pub mod IteBlock
+pub mod Loop
+pub mod Round
+pub mod RecBlock
 pub mod Cases
