@@ -12,4 +12,7 @@ pub mod IteBlock
 pub mod Loop
 pub mod Round
 pub mod RecBlock
+pub mod Start
+pub mod Equations
+pub mod Wired
 pub mod Cases
