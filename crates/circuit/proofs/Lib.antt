@@ -15,4 +15,15 @@ pub mod RecBlock
 pub mod Start
 pub mod Equations
 pub mod Wired
+pub mod Indexed
+pub mod Verdicts
+pub mod Passes
+pub mod Checked
+pub mod Clocked
+pub mod PassPieces
+pub mod PassBlocks
+pub mod PassBranches
+pub mod InRange
+pub mod Whole
+pub mod Holds
 pub mod Cases
