@@ -3,3 +3,4 @@ pub mod Scan
 pub mod Ports
 pub mod Refusing
 pub mod Passed
+pub mod Wires

@@ -1,0 +1,2 @@
+-- What the simulator's inner calls need. Definitions only.
+pub mod Ready
