@@ -1,3 +1,12 @@
+-- Proof: `simulator::cycles::first` meets its contract. Invariant: the first n wires stand in the buffer (`proofs.Passing`).
+-- Measure: the cells left. Assumes nothing.
+use Prim.Native.Nat.{_-_, _<_}
+use mathlib.Core.Path.{sym, _∙_}
+use borrow.Author.Needs.{needs}
+use native.Mathlib.Omega.{arith}
+use Rattle.circuit.specs.Cells.{cellCount}
+use Rattle.circuit.specs.Clock.{starting, shown}
+use Rattle.simulator.proofs.Passing.{Passing, passing-start, passing-on, passing-end}
 use Rattle.simulator.proofs.cycles.first.Statement.{statement}
 use Rattle.simulator.proofs.cycles.first.Tie as tie
 use Rattle.simulator.proofs.cycles.first.Reads as reads
@@ -6,50 +15,50 @@ use Rattle.cells.proofs.count.Reads as count-reads
 use Rattle.simulator.proofs.cycles.first_value.Reads as first-value-reads
 
 abbrev Inv-loop : tie.InvT-loop
-Inv-loop width netlist load words wires₀ count n₀ wires n = ?
+Inv-loop width netlist load words wires₀ count n₀ wires n = Passing width load words (starting (λ m. 0)) netlist wires n
 
 abbrev μ-loop : tie.MeasureT-loop
-μ-loop width netlist load words wires₀ count n₀ wires n = ?
+μ-loop width netlist load words wires₀ count n₀ wires n = cellCount netlist - n
 
--- src/cycles.rt:162:9
+-- At the loop: the entry, and that a turn is at a cell.
+abbrev start : tie.At-loop Inv-loop μ-loop → tie.Start Inv-loop μ-loop
+start L = L .before .before .before .before .before
+
+inside : (c : tie.In-loop Inv-loop μ-loop) → c .before .loop .n < cellCount (start (c .before) .args .netlist .now)
+inside c = omega (arith, c .loop-test .taken, c .before .before .count .ensures)
+
 count-requires : tie.Need-count-requires Inv-loop μ-loop
-count-requires c κs = ?
+count-requires c κs = search needs
 
--- src/cycles.rt:164:5
 loop-holds : tie.Need-loop-holds Inv-loop μ-loop
-loop-holds c = ?
+loop-holds c = passing-start _ _ _ _ _ _ (c .before .before .before .before .pre .fitting)
 
--- src/cycles.rt:165:13
 first-value-requires : tie.Need-first-value-requires Inv-loop μ-loop
-first-value-requires c κs = ?
+first-value-requires c κs =
+    let L = c .before .before in
+    let s = start L in
+    (record { checked = s .pre .checked; named = s .pre .named; fitting = L .loop .inv .long }, inside (c .before))
 
--- src/cycles.rt:166:9
 mul-wires : tie.Need-mul-wires Inv-loop μ-loop
-mul-wires c = ?
+mul-wires c = let L = c .before .before .before in omega (arith, inside (c .before .before), L .loop .inv .long, start L .good)
 
--- src/cycles.rt:166:9
 slice-write-wires : tie.Need-slice-write-wires Inv-loop μ-loop
-slice-write-wires c = ?
+slice-write-wires c = let L = c .before .before .before in omega (arith, inside (c .before .before), L .loop .inv .long)
 
--- src/cycles.rt:167:13
 add-n : tie.Need-add-n Inv-loop μ-loop
-add-n c = ?
+add-n c = let L = c .before .before .before in omega (arith, inside (c .before .before), L .loop .inv .long, start L .good)
 
--- src/cycles.rt:164:5
 loop-less : tie.Need-loop-less Inv-loop μ-loop
-loop-less c = ?
+loop-less c = omega (arith, inside (c .before .before))
 
--- src/cycles.rt:164:5
 loop-again : tie.Need-loop-again Inv-loop μ-loop
-loop-again c = ?
+loop-again c = let L = c .before .before .before in passing-on _ _ _ _ _ _ _ (L .loop .inv) _ (inside (c .before .before)) (c .first-value .ensures)
 
--- src/cycles.rt:157:1
 same-length : tie.Need-same-length Inv-loop μ-loop
-same-length c = ?
+same-length c = c .before .loop .inv .long ∙ sym (start (c .before) .pre .fitting)
 
--- src/cycles.rt:157:1
 returns : tie.Need-returns Inv-loop μ-loop
-returns c = ?
+returns c = let L = c .before in passing-end _ _ _ _ _ _ _ (L .loop .inv) (omega (arith, c .loop-test .left, L .before .count .ensures))
 
 pub first-spec : {M : Type 1} → statement M
 first-spec =

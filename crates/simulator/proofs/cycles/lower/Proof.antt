@@ -1,3 +1,6 @@
+-- Proof: `simulator::cycles::lower` meets its contract: a wire below n is among the first n. Assumes nothing.
+use lib.Seq.{getD-take}
+use mathlib.Core.Path.{sym}
 use borrow.Author.Needs.{needs}
 use Rattle.simulator.proofs.cycles.lower.Statement.{statement}
 use Rattle.simulator.proofs.cycles.lower.Tie as tie
@@ -5,25 +8,20 @@ use Rattle.simulator.proofs.cycles.lower.Reads as reads
 use Rattle.simulator.proofs.cycles.lower.Lts as lts
 use Rattle.cells.proofs.number.Reads as number-reads
 
--- src/cycles.rt:42:16
 number-requires : tie.Need-number-requires
 number-requires c κs = search needs
 
--- src/cycles.rt:42:16
 cast-wire : tie.Need-cast-wire
 cast-wire c = search needs
 
--- src/cycles.rt:43:5
 mul-result : tie.Need-mul-result
 mul-result c = search needs
 
--- src/cycles.rt:43:5
 shared-slice-read-result : tie.Need-shared-slice-read-result
 shared-slice-read-result c = search needs
 
--- src/cycles.rt:37:1
 returns : tie.Need-returns
-returns c = ?
+returns c = let s = c .before .before .before .before in rw (c .before .number .ensures) (sym (getD-take (s .args .n) (s .args .wires .now) _ 0 (s .pre .2)))
 
 pub lower-spec : {M : Type 1} → statement M
 lower-spec =

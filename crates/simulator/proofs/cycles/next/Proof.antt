@@ -1,3 +1,12 @@
+-- Proof: `simulator::cycles::next` meets its contract. Invariant: the first n wires stand in the buffer (`proofs.Passing`).
+-- Measure: the cells left. Assumes nothing.
+use Prim.Native.Nat.{_-_, _<_}
+use mathlib.Core.Path.{sym, _∙_}
+use borrow.Author.Needs.{needs}
+use native.Mathlib.Omega.{arith}
+use Rattle.circuit.specs.Cells.{cellCount}
+use Rattle.circuit.specs.Clock.{starting, shown}
+use Rattle.simulator.proofs.Passing.{Passing, passing-start, passing-on, passing-end}
 use Rattle.simulator.proofs.cycles.next.Statement.{statement}
 use Rattle.simulator.proofs.cycles.next.Tie as tie
 use Rattle.simulator.proofs.cycles.next.Reads as reads
@@ -6,50 +15,50 @@ use Rattle.cells.proofs.count.Reads as count-reads
 use Rattle.simulator.proofs.cycles.next_value.Reads as next-value-reads
 
 abbrev Inv-loop : tie.InvT-loop
-Inv-loop width netlist before load words after₀ count n₀ after n = ?
+Inv-loop width netlist before load words after₀ count n₀ after n = Passing width load words (shown before) netlist after n
 
 abbrev μ-loop : tie.MeasureT-loop
-μ-loop width netlist before load words after₀ count n₀ after n = ?
+μ-loop width netlist before load words after₀ count n₀ after n = cellCount netlist - n
 
--- src/cycles.rt:185:9
+-- At the loop: the entry, and that a turn is at a cell.
+abbrev start : tie.At-loop Inv-loop μ-loop → tie.Start Inv-loop μ-loop
+start L = L .before .before .before .before .before .before
+
+inside : (c : tie.In-loop Inv-loop μ-loop) → c .before .loop .n < cellCount (start (c .before) .args .netlist .now)
+inside c = omega (arith, c .loop-test .taken, c .before .before .count .ensures)
+
 count-requires : tie.Need-count-requires Inv-loop μ-loop
-count-requires c κs = ?
+count-requires c κs = search needs
 
--- src/cycles.rt:187:5
 loop-holds : tie.Need-loop-holds Inv-loop μ-loop
-loop-holds c = ?
+loop-holds c = passing-start _ _ _ _ _ _ (c .before .before .before .before .before .pre .0 .fitting)
 
--- src/cycles.rt:188:13
 next-value-requires : tie.Need-next-value-requires Inv-loop μ-loop
-next-value-requires c κs = ?
+next-value-requires c κs =
+    let L = c .before .before in
+    let s = start L in
+    (record { checked = s .pre .0 .checked; named = s .pre .0 .named; fitting = L .loop .inv .long }, inside (c .before), s .pre .1)
 
--- src/cycles.rt:189:9
 mul-after : tie.Need-mul-after Inv-loop μ-loop
-mul-after c = ?
+mul-after c = let L = c .before .before .before in omega (arith, inside (c .before .before), L .loop .inv .long, start L .good)
 
--- src/cycles.rt:189:9
 slice-write-after : tie.Need-slice-write-after Inv-loop μ-loop
-slice-write-after c = ?
+slice-write-after c = let L = c .before .before .before in omega (arith, inside (c .before .before), L .loop .inv .long)
 
--- src/cycles.rt:190:13
 add-n : tie.Need-add-n Inv-loop μ-loop
-add-n c = ?
+add-n c = let L = c .before .before .before in omega (arith, inside (c .before .before), L .loop .inv .long, start L .good)
 
--- src/cycles.rt:187:5
 loop-less : tie.Need-loop-less Inv-loop μ-loop
-loop-less c = ?
+loop-less c = omega (arith, inside (c .before .before))
 
--- src/cycles.rt:187:5
 loop-again : tie.Need-loop-again Inv-loop μ-loop
-loop-again c = ?
+loop-again c = let L = c .before .before .before in passing-on _ _ _ _ _ _ _ (L .loop .inv) _ (inside (c .before .before)) (c .next-value .ensures)
 
--- src/cycles.rt:172:1
 same-length : tie.Need-same-length Inv-loop μ-loop
-same-length c = ?
+same-length c = c .before .loop .inv .long ∙ sym (start (c .before) .pre .0 .fitting)
 
--- src/cycles.rt:172:1
 returns : tie.Need-returns Inv-loop μ-loop
-returns c = ?
+returns c = let L = c .before in passing-end _ _ _ _ _ _ _ (L .loop .inv) (omega (arith, c .loop-test .left, L .before .count .ensures))
 
 pub next-spec : {M : Type 1} → statement M
 next-spec =

@@ -1,0 +1,4 @@
+-- Laws of the simulator: how a pass fills a buffer, and what its checks find.
+pub mod Passing
+pub mod Inputs
+pub mod Judging
