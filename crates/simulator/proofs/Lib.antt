@@ -2,3 +2,4 @@
 pub mod Passing
 pub mod Inputs
 pub mod Judging
+pub mod Accepting

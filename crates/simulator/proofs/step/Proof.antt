@@ -1,37 +1,43 @@
+-- Proof: `simulator::step` meets its contract: a refusal leaves the wires, an accepted call has all that a cycle needs.
+-- Assumes nothing.
+use mathlib.Core.Path.{_≡_, sym, _∙_}
+use lib.ListN.{length}
+use Rattle.meaning.specs.declared.Verdict.the-variants as verdict
+use Rattle.circuit.specs.Simulated.{stepVerdict}
+use Rattle.simulator.proofs.Accepting.{step-ready, step-written, step-kept}
 use borrow.Author.Needs.{needs}
 use Rattle.simulator.proofs.step.Statement.{statement}
 use Rattle.simulator.proofs.step.Tie as tie
-use Rattle.simulator.proofs.step.Reads as reads
-use Rattle.simulator.proofs.step.Lts as lts
-use Rattle.simulator.proofs.cycles.next.Reads as next-reads
-use Rattle.simulator.proofs.verdicts.step.Reads as step-reads
 
--- src/lib.rt:49:9
+-- The verdict accepts.
+accepts : (c : tie.After-enum-told) → (let a = c .before .before .before .before .before .before .before .args in
+    stepVerdict (a .width) (a .netlist .now) (a .before .now) (a .words .now) (length (a .after .now)) ≡ verdict.Accepted)
+accepts c = sym (c .before .before .step .ensures) ∙ c .enum-told .given .1
+
 step-requires : tie.Need-step-requires
 step-requires c κs = search needs
 
 enum-told : tie.Need-enum-told
 enum-told c = search needs
 
--- src/lib.rt:51:9
 enum-told-2 : tie.Need-enum-told-2
 enum-told-2 c = search needs
 
--- src/lib.rt:51:9
 returns : tie.Need-returns
-returns c = ?
+returns c =
+    let v = c .before .before .step .ensures in
+    (v, step-kept _ _ _ _ _ _ _ _ (sym v ∙ c .enum-told2 .given .1))
 
--- src/lib.rt:53:5
 next-requires : tie.Need-next-requires
-next-requires c κs = ?
+next-requires c κs = step-ready _ _ _ _ _ (accepts (c .before))
 
--- src/lib.rt:37:1
 same-length : tie.Need-same-length
 same-length c = search needs
 
--- src/lib.rt:37:1
 returns-2 : tie.Need-returns-2
-returns-2 c = ?
+returns-2 c =
+    let t = c .before .before .before .before in
+    (sym (accepts t), c .before .before .next .ensures ∙ step-written _ _ _ _ _ _ (accepts t))
 
 pub step-spec : {M : Type 1} → statement M
 step-spec =

@@ -14,17 +14,6 @@ use Rattle.simulator.proofs.Inputs.{given-at}
 use borrow.Author.Needs.{needs}
 use Rattle.simulator.proofs.cycles.combinational.Statement.{statement}
 use Rattle.simulator.proofs.cycles.combinational.Tie as tie
-use Rattle.simulator.proofs.cycles.combinational.Reads as reads
-use Rattle.simulator.proofs.cycles.combinational.Lts as lts
-use Rattle.cells.proofs.kind.Reads as kind-reads
-use Rattle.cells.proofs.number.Reads as number-reads
-use Rattle.simulator.proofs.cycles.bit.Reads as bit-reads
-use Rattle.simulator.proofs.cycles.both.Reads as both-reads
-use Rattle.simulator.proofs.cycles.either.Reads as either-reads
-use Rattle.simulator.proofs.cycles.high.Reads as high-reads
-use Rattle.simulator.proofs.cycles.lower.Reads as lower-reads
-use Rattle.simulator.proofs.cycles.neither.Reads as neither-reads
-use Rattle.words.proofs.operate.Reads as operate-reads
 
 -- Where the kind is read: the cell, that it has passed, and what a reader of lower wires asks of number j.
 abbrev width : tie.After-kind → ℕ

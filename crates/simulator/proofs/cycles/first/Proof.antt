@@ -5,14 +5,10 @@ use mathlib.Core.Path.{sym, _∙_}
 use borrow.Author.Needs.{needs}
 use native.Mathlib.Omega.{arith}
 use Rattle.circuit.specs.Cells.{cellCount}
-use Rattle.circuit.specs.Clock.{starting, shown}
+use Rattle.circuit.specs.Clock.{starting}
 use Rattle.simulator.proofs.Passing.{Passing, passing-start, passing-on, passing-end}
 use Rattle.simulator.proofs.cycles.first.Statement.{statement}
 use Rattle.simulator.proofs.cycles.first.Tie as tie
-use Rattle.simulator.proofs.cycles.first.Reads as reads
-use Rattle.simulator.proofs.cycles.first.Lts as lts
-use Rattle.cells.proofs.count.Reads as count-reads
-use Rattle.simulator.proofs.cycles.first_value.Reads as first-value-reads
 
 abbrev Inv-loop : tie.InvT-loop
 Inv-loop width netlist load words wires₀ count n₀ wires n = Passing width load words (starting (λ m. 0)) netlist wires n

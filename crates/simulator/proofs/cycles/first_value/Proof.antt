@@ -4,10 +4,6 @@ use mathlib.Core.Path.{sym, _∙_}
 use borrow.Author.Needs.{needs}
 use Rattle.simulator.proofs.cycles.first_value.Statement.{statement}
 use Rattle.simulator.proofs.cycles.first_value.Tie as tie
-use Rattle.simulator.proofs.cycles.first_value.Reads as reads
-use Rattle.simulator.proofs.cycles.first_value.Lts as lts
-use Rattle.cells.proofs.kind.Reads as kind-reads
-use Rattle.simulator.proofs.cycles.combinational.Reads as combinational-reads
 
 kind-requires : tie.Need-kind-requires
 kind-requires c κs = search needs

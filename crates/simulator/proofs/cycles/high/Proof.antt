@@ -7,9 +7,6 @@ use Rattle.meaning.specs.Choices.{bit}
 use borrow.Author.Needs.{needs}
 use Rattle.simulator.proofs.cycles.high.Statement.{statement}
 use Rattle.simulator.proofs.cycles.high.Tie as tie
-use Rattle.simulator.proofs.cycles.high.Reads as reads
-use Rattle.simulator.proofs.cycles.high.Lts as lts
-use Rattle.simulator.proofs.cycles.lower.Reads as lower-reads
 
 -- A number that is not zero is a bit that is high.
 nonzero : (x : ℕ) → not (eqb x 0) ≡ bit x

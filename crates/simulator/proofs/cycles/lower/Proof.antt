@@ -4,9 +4,6 @@ use mathlib.Core.Path.{sym}
 use borrow.Author.Needs.{needs}
 use Rattle.simulator.proofs.cycles.lower.Statement.{statement}
 use Rattle.simulator.proofs.cycles.lower.Tie as tie
-use Rattle.simulator.proofs.cycles.lower.Reads as reads
-use Rattle.simulator.proofs.cycles.lower.Lts as lts
-use Rattle.cells.proofs.number.Reads as number-reads
 
 number-requires : tie.Need-number-requires
 number-requires c κs = search needs

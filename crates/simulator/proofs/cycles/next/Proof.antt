@@ -5,14 +5,10 @@ use mathlib.Core.Path.{sym, _∙_}
 use borrow.Author.Needs.{needs}
 use native.Mathlib.Omega.{arith}
 use Rattle.circuit.specs.Cells.{cellCount}
-use Rattle.circuit.specs.Clock.{starting, shown}
+use Rattle.circuit.specs.Clock.{shown}
 use Rattle.simulator.proofs.Passing.{Passing, passing-start, passing-on, passing-end}
 use Rattle.simulator.proofs.cycles.next.Statement.{statement}
 use Rattle.simulator.proofs.cycles.next.Tie as tie
-use Rattle.simulator.proofs.cycles.next.Reads as reads
-use Rattle.simulator.proofs.cycles.next.Lts as lts
-use Rattle.cells.proofs.count.Reads as count-reads
-use Rattle.simulator.proofs.cycles.next_value.Reads as next-value-reads
 
 abbrev Inv-loop : tie.InvT-loop
 Inv-loop width netlist before load words after₀ count n₀ after n = Passing width load words (shown before) netlist after n

@@ -11,11 +11,6 @@ use Rattle.cells.proofs.Wires.{isLater, x-there}
 use borrow.Author.Needs.{needs}
 use Rattle.simulator.proofs.cycles.next_value.Statement.{statement}
 use Rattle.simulator.proofs.cycles.next_value.Tie as tie
-use Rattle.simulator.proofs.cycles.next_value.Reads as reads
-use Rattle.simulator.proofs.cycles.next_value.Lts as lts
-use Rattle.cells.proofs.kind.Reads as kind-reads
-use Rattle.simulator.proofs.cycles.combinational.Reads as combinational-reads
-use Rattle.simulator.proofs.cycles.register.Reads as register-reads
 
 -- What a register's reader asks for: its wire is there.
 asked : (c : tie.After-kind) (k : ℕ) → c .kind .result ≡ k → isLater (portsOf k .x) ≡ true →

@@ -2,9 +2,6 @@
 use borrow.Author.Needs.{needs}
 use Rattle.simulator.proofs.cycles.register.Statement.{statement}
 use Rattle.simulator.proofs.cycles.register.Tie as tie
-use Rattle.simulator.proofs.cycles.register.Reads as reads
-use Rattle.simulator.proofs.cycles.register.Lts as lts
-use Rattle.cells.proofs.number.Reads as number-reads
 
 number-requires : tie.Need-number-requires
 number-requires c κs = search needs

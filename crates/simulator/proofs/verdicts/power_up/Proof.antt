@@ -1,42 +1,51 @@
+-- Proof: `simulator::verdicts::power_up` meets its contract: each layer's refusal is passed on. Assumes nothing.
+use mathlib.Core.Path.{_≡_, sym, _∙_}
+use Rattle.meaning.specs.declared.Verdict.the-variants as verdict
+use Rattle.circuit.specs.Netlists.{netlistVerdict}
+use Rattle.cells.proofs.Passed.{checked}
+use Rattle.simulator.proofs.Judging.{first-netlist, first-room, first-inputs}
 use borrow.Author.Needs.{needs}
 use Rattle.simulator.proofs.verdicts.power_up.Statement.{statement}
 use Rattle.simulator.proofs.verdicts.power_up.Tie as tie
-use Rattle.simulator.proofs.verdicts.power_up.Reads as reads
-use Rattle.simulator.proofs.verdicts.power_up.Lts as lts
-use Rattle.cells.proofs.check.Reads as check-reads
-use Rattle.cells.proofs.count.Reads as count-reads
-use Rattle.simulator.proofs.verdicts.inputs.Reads as inputs-reads
 
--- src/verdicts.rt:115:9
+-- The netlist is accepted.
+fine : (c : tie.After-enum-told) → (let a = c .before .before .before .before .before .args in
+    netlistVerdict (a .width) (a .netlist .now) ≡ verdict.Accepted)
+fine c = sym (c .before .before .check .ensures) ∙ c .enum-told .given .1
+
 check-requires : tie.Need-check-requires
 check-requires c κs = search needs
 
 enum-told : tie.Need-enum-told
 enum-told c = search needs
 
--- src/verdicts.rt:117:9
 enum-told-2 : tie.Need-enum-told-2
 enum-told-2 c = search needs
 
--- src/verdicts.rt:117:9
 returns : tie.Need-returns
-returns c = ?
+returns c =
+    let k = c .before .before in
+    let a = k .before .before .before .args in
+    first-netlist (a .width) (a .netlist .now) (a .words .now) (a .room) _ (k .check .ensures) _ _ (c .enum-told2 .given .1)
 
--- src/verdicts.rt:119:16
 count-requires : tie.Need-count-requires
 count-requires c κs = search needs
 
--- src/verdicts.rt:120:9
 returns-2 : tie.Need-returns-2
-returns-2 c = ?
+returns-2 c =
+    let t = c .before .before in
+    let a = t .before .before .before .before .before .args in
+    first-room (a .width) (a .netlist .now) (a .words .now) (a .room) (fine t) (λ e. c .if1 .taken (e ∙ sym (c .before .count .ensures)))
 
--- src/verdicts.rt:122:5
 inputs-requires : tie.Need-inputs-requires
-inputs-requires c κs = ?
+inputs-requires c κs = checked _ _ (fine (c .before .before)) .wide .1
 
--- src/verdicts.rt:112:1
 returns-3 : tie.Need-returns-3
-returns-3 c = ?
+returns-3 c =
+    let t = c .before .before .before in
+    let a = t .before .before .before .before .before .args in
+    c .inputs .ensures
+    ∙ first-inputs (a .width) (a .netlist .now) (a .words .now) (a .room) (fine t) (c .before .if1 .left ∙ c .before .before .count .ensures)
 
 pub power-up-spec : {M : Type 1} → statement M
 power-up-spec =

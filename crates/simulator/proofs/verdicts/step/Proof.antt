@@ -1,62 +1,93 @@
+-- Proof: `simulator::verdicts::step` meets its contract: each layer's refusal is passed on. Assumes nothing.
+use mathlib.Core.Path.{_≡_, sym, _∙_}
+use lib.ListN.{length}
+use Rattle.meaning.specs.declared.Verdict.the-variants as verdict
+use Rattle.circuit.specs.Cells.{cellCount}
+use Rattle.circuit.specs.Netlists.{netlistVerdict}
+use Rattle.cells.proofs.Passed.{checked}
+use Rattle.simulator.proofs.Judging.{step-netlist, step-before, step-after, step-wires, step-inputs}
 use borrow.Author.Needs.{needs}
 use Rattle.simulator.proofs.verdicts.step.Statement.{statement}
 use Rattle.simulator.proofs.verdicts.step.Tie as tie
-use Rattle.simulator.proofs.verdicts.step.Reads as reads
-use Rattle.simulator.proofs.verdicts.step.Lts as lts
-use Rattle.cells.proofs.check.Reads as check-reads
-use Rattle.cells.proofs.count.Reads as count-reads
-use Rattle.simulator.proofs.verdicts.inputs.Reads as inputs-reads
-use Rattle.simulator.proofs.verdicts.wires_fit.Reads as wires-fit-reads
 
--- src/verdicts.rt:130:9
+-- The netlist is accepted, and each buffer has a number for every wire.
+abbrev start : tie.After-enum-told → tie.Start
+start c = c .before .before .before .before .before .before
+
+fine : (c : tie.After-enum-told) → netlistVerdict (start c .args .width) (start c .args .netlist .now) ≡ verdict.Accepted
+fine c = sym (c .before .before .check .ensures) ∙ c .enum-told .given .1
+
+long : (c : tie.Else1) → (let a = start (c .before .before) .args in length (a .before .now) ≡ cellCount (a .netlist .now))
+long c = c .if1 .left ∙ c .before .count .ensures
+
+spacious : (c : tie.Else2) → (let a = start (c .before .before .before) .args in a .room ≡ cellCount (a .netlist .now))
+spacious c = c .if2 .left ∙ c .before .before .count .ensures
+
 check-requires : tie.Need-check-requires
 check-requires c κs = search needs
 
 enum-told : tie.Need-enum-told
 enum-told c = search needs
 
--- src/verdicts.rt:132:9
 enum-told-2 : tie.Need-enum-told-2
 enum-told-2 c = search needs
 
--- src/verdicts.rt:132:9
 returns : tie.Need-returns
-returns c = ?
+returns c =
+    let k = c .before .before in
+    let a = k .before .before .before .before .args in
+    step-netlist (a .width) (a .netlist .now) (a .before .now) (a .words .now) (a .room) _ (k .check .ensures) _ _ (c .enum-told2 .given .1)
 
--- src/verdicts.rt:134:9
 count-requires : tie.Need-count-requires
 count-requires c κs = search needs
 
--- src/verdicts.rt:136:9
 returns-2 : tie.Need-returns-2
-returns-2 c = ?
+returns-2 c =
+    let t = c .before .before in
+    let a = start t .args in
+    step-before (a .width) (a .netlist .now) (a .before .now) (a .words .now) (a .room) (fine t)
+    (λ e. c .if1 .taken (e ∙ sym (c .before .count .ensures)))
 
--- src/verdicts.rt:139:9
 returns-3 : tie.Need-returns-3
-returns-3 c = ?
+returns-3 c =
+    let t = c .before .before .before in
+    let a = start t .args in
+    step-after (a .width) (a .netlist .now) (a .before .now) (a .words .now) (a .room) (fine t) (long (c .before))
+    (λ e. c .if2 .taken (e ∙ sym (c .before .before .count .ensures)))
 
--- src/verdicts.rt:141:9
 wires-fit-requires : tie.Need-wires-fit-requires
-wires-fit-requires c κs = ?
+wires-fit-requires c κs =
+    let t = c .before .before .before in
+    let k = checked _ _ (fine t) in
+    (k .wide .1, k .some .1, long (c .before))
 
 enum-told-3 : tie.Need-enum-told-3
 enum-told-3 c = search needs
 
--- src/verdicts.rt:143:9
 enum-told-4 : tie.Need-enum-told-4
 enum-told-4 c = search needs
 
--- src/verdicts.rt:143:9
 returns-4 : tie.Need-returns-4
-returns-4 c = ?
+returns-4 c =
+    let f = c .before .before in
+    let d = f .before in
+    let t = d .before .before .before in
+    let a = start t .args in
+    step-wires (a .width) (a .netlist .now) (a .before .now) (a .words .now) (a .room) (fine t) (long (d .before)) (spacious d)
+    _ (f .wires-fit .ensures) _ _ (c .enum-told4 .given .1)
 
--- src/verdicts.rt:145:5
 inputs-requires : tie.Need-inputs-requires
-inputs-requires c κs = ?
+inputs-requires c κs = checked _ _ (fine (c .before .before .before .before .before .before)) .wide .1
 
--- src/verdicts.rt:126:1
 returns-5 : tie.Need-returns-5
-returns-5 c = ?
+returns-5 c =
+    let f = c .before .before .before in
+    let d = f .before in
+    let t = d .before .before .before in
+    let a = start t .args in
+    c .inputs .ensures
+    ∙ step-inputs (a .width) (a .netlist .now) (a .before .now) (a .words .now) (a .room) (fine t) (long (d .before)) (spacious d)
+    (sym (f .wires-fit .ensures) ∙ c .before .enum-told3 .given .1)
 
 pub step-spec : {M : Type 1} → statement M
 step-spec =

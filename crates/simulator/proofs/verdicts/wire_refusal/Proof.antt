@@ -1,47 +1,42 @@
+-- Proof: `simulator::verdicts::wire_refusal` meets its contract. Assumes nothing.
+use mathlib.Core.Path.{_≡_, sym, ap, _∙_}
+use borrow.Author.Tests.{le-leb, lt-leb}
+use Rattle.circuit.specs.Cells.{kindAt, bitKind}
 use borrow.Author.Needs.{needs}
 use Rattle.simulator.proofs.verdicts.wire_refusal.Statement.{statement}
 use Rattle.simulator.proofs.verdicts.wire_refusal.Tie as tie
-use Rattle.simulator.proofs.verdicts.wire_refusal.Reads as reads
-use Rattle.simulator.proofs.verdicts.wire_refusal.Lts as lts
-use Rattle.cells.proofs.kind.Reads as kind-reads
-use Rattle.cells.proofs.kinds.drives_bit.Reads as drives-bit-reads
-use Rattle.words.proofs.fits.Reads as fits-reads
 
--- src/verdicts.rt:81:17
+-- The test of the kind, as the call answers it.
+is-bit : (c : tie.After-drives-bit) → (let a = c .before .before .before .before .before .args in
+    bitKind (kindAt (a .netlist .now) (a .n)) ≡ c .drives-bit .result)
+is-bit c = sym (c .drives-bit .ensures ∙ ap bitKind (c .before .kind .ensures))
+
 mul-shows : tie.Need-mul-shows
 mul-shows c = search needs
 
--- src/verdicts.rt:81:17
 shared-slice-read-shows : tie.Need-shared-slice-read-shows
 shared-slice-read-shows c = search needs
 
--- src/verdicts.rt:82:40
 kind-requires : tie.Need-kind-requires
 kind-requires c κs = search needs
 
--- src/verdicts.rt:82:9
 drives-bit-requires : tie.Need-drives-bit-requires
 drives-bit-requires c κs = search needs
 
--- src/verdicts.rt:86:12
 fits-requires : tie.Need-fits-requires
 fits-requires c κs = search needs
 
--- src/verdicts.rt:77:1
 returns : tie.Need-returns
-returns c = ?
+returns c = rw (is-bit (c .before .before) ∙ c .before .if1 .taken, le-leb _ _ (c .if2 .taken))
 
--- src/verdicts.rt:77:1
 returns-2 : tie.Need-returns-2
-returns-2 c = ?
+returns-2 c = rw (is-bit (c .before .before) ∙ c .before .if1 .taken, lt-leb _ _ (c .if2 .left))
 
--- src/verdicts.rt:77:1
 returns-3 : tie.Need-returns-3
-returns-3 c = ?
+returns-3 c = rw (is-bit (c .before .before .before) ∙ c .before .before .if1 .left, sym (c .before .fits2 .ensures) ∙ c .if3 .taken)
 
--- src/verdicts.rt:77:1
 returns-4 : tie.Need-returns-4
-returns-4 c = ?
+returns-4 c = rw (is-bit (c .before .before .before) ∙ c .before .before .if1 .left, sym (c .before .fits2 .ensures) ∙ c .if3 .left)
 
 pub wire-refusal-spec : {M : Type 1} → statement M
 wire-refusal-spec =

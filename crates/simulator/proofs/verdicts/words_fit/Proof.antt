@@ -1,50 +1,47 @@
+-- Proof: `simulator::verdicts::words_fit` meets its contract. Invariant: the words passed are below the bound.
+-- Measure: the words left. Mathematics in `proofs.Inputs`. Assumes nothing.
+use Prim.Native.Nat.{_-_, _^_}
+use mathlib.Core.Path.{sym, _∙_}
+use native.Mathlib.Omega.{arith}
+use borrow.Author.Needs.{needs}
+use lib.ListN.{length}
+use borrow.Author.Tests.{not-true, not-false}
+use Rattle.simulator.proofs.Inputs.{Below, below-start, below-end, below-on, below-not}
 use Rattle.simulator.proofs.verdicts.words_fit.Statement.{statement}
 use Rattle.simulator.proofs.verdicts.words_fit.Tie as tie
-use Rattle.simulator.proofs.verdicts.words_fit.Reads as reads
-use Rattle.simulator.proofs.verdicts.words_fit.Lts as lts
-use Rattle.words.proofs.fits.Reads as fits-reads
 
 abbrev Inv-loop : tie.InvT-loop
-Inv-loop width words j₀ j = ?
+Inv-loop width words j₀ j = Below (2 ^ width) words j
 
 abbrev μ-loop : tie.MeasureT-loop
-μ-loop width words j₀ j = ?
+μ-loop width words j₀ j = length words - j
 
--- src/verdicts.rt:49:5
 loop-holds : tie.Need-loop-holds Inv-loop μ-loop
-loop-holds c = ?
+loop-holds c = below-start _ _
 
--- src/verdicts.rt:50:32
 mul-fits : tie.Need-mul-fits Inv-loop μ-loop
-mul-fits c = ?
+mul-fits c = search needs
 
--- src/verdicts.rt:50:32
 shared-slice-read-fits : tie.Need-shared-slice-read-fits Inv-loop μ-loop
-shared-slice-read-fits c = ?
+shared-slice-read-fits c = omega arith
 
--- src/verdicts.rt:50:13
 fits-requires : tie.Need-fits-requires Inv-loop μ-loop
-fits-requires c κs = ?
+fits-requires c κs = search needs
 
--- src/verdicts.rt:51:13
 returns : tie.Need-returns Inv-loop μ-loop
-returns c = ?
+returns c = let i = c .before .before .before in below-not _ _ _ (i .before .loop .inv) (i .loop-test .taken) (sym (c .before .fits2 .ensures) ∙ not-true _ (c .if1 .taken))
 
--- src/verdicts.rt:53:13
 add-j : tie.Need-add-j Inv-loop μ-loop
-add-j c = ?
+add-j c = search needs
 
--- src/verdicts.rt:49:5
 loop-less : tie.Need-loop-less Inv-loop μ-loop
-loop-less c = ?
+loop-less c = omega arith
 
--- src/verdicts.rt:49:5
 loop-again : tie.Need-loop-again Inv-loop μ-loop
-loop-again c = ?
+loop-again c = let i = c .before .before .before in below-on _ _ _ (i .before .loop .inv) (i .loop-test .taken) (sym (c .before .fits2 .ensures) ∙ not-false _ (c .if1 .left))
 
--- src/verdicts.rt:44:1
 returns-2 : tie.Need-returns-2 Inv-loop μ-loop
-returns-2 c = ?
+returns-2 c = below-end _ _ _ (c .before .loop .inv) (c .loop-test .left)
 
 pub words-fit-spec : {M : Type 1} → statement M
 words-fit-spec =
