@@ -1,0 +1,4 @@
+pub mod Operands
+pub mod Combined
+pub mod Columns
+pub mod Scan

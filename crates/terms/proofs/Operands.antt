@@ -1,0 +1,82 @@
+-- Law: check 6 is a fact of each operand. Cited by the scan, by the shapes and by the recursive size. Assumes nothing.
+use Prim.Native.Nat.{ℕ, zero, suc, _+_, _≤_, _<_}
+use mathlib.Core.Path.{_≡_, refl}
+use mathlib.Core.Bool.{Bool, true, false}
+use mathlib.Core.List.{List}
+use mathlib.Core.Logic.{inl, inr}
+use native.Mathlib.Omega.{arith}
+use lib.Dec.{eqb}
+use borrow.Author.Tests.{ltb-true, lt-ltb, le-ltb}
+use Rattle.meaning.specs.Choices.{and}
+use Rattle.meaning.specs.Terms.{numberOf}
+use Rattle.meaning.specs.Checks.{operandsOf, operandsBelow}
+use Rattle.meaning.proofs.Tests.{split, by-test, both}
+
+module _ (t : List ℕ) (k : ℕ) where
+  -- Operands that pass are below their term.
+  pub below-at : (n : ℕ) → operandsBelow t k n ≡ true → (j : ℕ) → 1 ≤ j → j ≤ n → numberOf t k j < k
+  unfolding operandsBelow
+  below-at zero h j l u = absurd (omega arith)
+  below-at (suc n) h j l u =
+      let p = both _ _ h in
+      elim (split j (suc n)) [
+        | inl a ↦ below-at n (p .0) j l (omega arith)
+        | inr a ↦ (let e : j ≡ suc n = omega arith in rw e (ltb-true _ _ (p .1)))
+      ]
+
+  -- Where all are below, the check passes.
+  pub all-below : (n : ℕ) → ((j : ℕ) → 1 ≤ j → j ≤ n → numberOf t k j < k) → operandsBelow t k n ≡ true
+  unfolding operandsBelow
+  all-below zero h = refl
+  all-below (suc n) h =
+      rw (all-below n (λ j l u. h j l (omega arith)), lt-ltb (numberOf t k (suc n)) k (h (suc n) (omega arith) (omega arith)))
+
+  -- One operand more.
+  pub one-more-below : (n : ℕ) → ((j : ℕ) → 1 ≤ j → j < n → numberOf t k j < k) → numberOf t k n < k →
+      (j : ℕ) → 1 ≤ j → j < n + 1 → numberOf t k j < k
+  one-more-below n h q j l u = elim (split j n) [
+    | inl a ↦ h j l a
+    | inr a ↦ (let e : j ≡ n = omega arith in rw e q)
+  ]
+
+  -- Where one is not, it does not.
+  fails : (b : Bool) → and b false ≡ false
+  fails true = refl
+  fails false = refl
+
+  pub one-above : (n j : ℕ) → 1 ≤ j → j ≤ n → k ≤ numberOf t k j → operandsBelow t k n ≡ false
+  unfolding operandsBelow
+  one-above zero j l u h = absurd (omega arith)
+  one-above (suc n) j l u h = elim (split j (suc n)) [
+    | inl a ↦ rw (one-above n j l (omega arith) h)
+    | inr a ↦
+        (let e : suc n ≡ j = omega arith in
+        let q : k ≤ numberOf t k (suc n) = rw e h in
+        rw (le-ltb (numberOf t k (suc n)) k q) (fails (operandsBelow t k n)))
+  ]
+
+-- How many operands each combinator has.
+pub seq-operands : {kind : ℕ} → kind ≡ 1 → operandsOf kind ≡ 2
+unfolding operandsOf
+seq-operands e = rw e
+
+pub par-operands : {kind : ℕ} → kind ≡ 2 → operandsOf kind ≡ 2
+unfolding operandsOf
+par-operands e = rw e
+
+pub ite-operands : {kind : ℕ} → kind ≡ 3 → operandsOf kind ≡ 3
+unfolding operandsOf
+ite-operands e = rw e
+
+pub rec-operands : {kind : ℕ} → kind ≡ 4 → operandsOf kind ≡ 3
+unfolding operandsOf
+rec-operands e = rw e
+
+-- No kind has more than three.
+pub few-operands : (kind : ℕ) → operandsOf kind ≤ 3
+unfolding operandsOf
+few-operands kind =
+    by-test (λ n. n ≤ 3) (eqb kind 1) _ _ (λ z. omega arith) (λ z.
+    by-test (λ n. n ≤ 3) (eqb kind 2) _ _ (λ z. omega arith) (λ z.
+    by-test (λ n. n ≤ 3) (eqb kind 3) _ _ (λ z. omega arith) (λ z.
+    by-test (λ n. n ≤ 3) (eqb kind 4) _ _ (λ z. omega arith) (λ z. omega arith))))

@@ -1,0 +1,157 @@
+// A table's numbers and its checks 1 to 9, with what they find of each term; and the sizes again, by recursion.
+// A refused table has its number and place, and zeros for every term. Document 01: "Term tables", "Refusal numbers".
+//
+//     check    the width and the length, then `scanned`, then the size of the whole circuit
+//     scanned  3 to 8 term by term, lowest first: `kinds::early`, the operands, `shapes::shape_of`
+//     size     the cells of one term of an accepted table
+pub mod kinds;
+pub mod shapes;
+
+use meaning::Facts;
+use meaning::Verdict;
+use shapes::Shape;
+ghost use mathlib.Core.Path.{_≡_};
+ghost use Prim.Native.Nat.{_*_, _+_, _<_, _≤_, _%_};
+ghost use lib.ListN.{length};
+ghost use lib.Dec.{eqb, leb};
+ghost use Rattle.meaning.specs.Choices.{and};
+ghost use Rattle.meaning.specs.Terms.{numberOf, tree};
+ghost use Rattle.meaning.specs.Counts.{«size»};
+ghost use Rattle.meaning.specs.Answers.{factsOf};
+ghost use Rattle.terms.specs.Scans.{Scanned, bareFacts, CanSize};
+
+// Number j of term k.
+pub fn number(table: &[u32], k: usize, j: usize) -> u32
+    requires { ⌜ (j < 4) × (k * 4 + 4 ≤ length (now table)) ⌝ }
+    ensures { λ r. ⌜ r ≡ numberOf (now (table .entry)) k j ⌝ }
+{
+    table[k * 4 + j]
+}
+
+// A number as one that can index.
+fn wide(x: u32) -> usize
+    ensures { λ r. ⌜ r ≡ x ⌝ }
+{
+    x as usize
+}
+
+// The same number, as the term that it names.
+pub fn operand(table: &[u32], k: usize, j: usize) -> usize
+    requires { ⌜ (j < 4) × (k * 4 + 4 ≤ length (now table)) ⌝ }
+    ensures { λ r. ⌜ r ≡ numberOf (now (table .entry)) k j ⌝ }
+{
+    wide(number(table, k, j))
+}
+
+// 2: a length is that of 1 to 256 terms.
+fn length_fits(len: usize) -> bool
+    ensures { λ r. ⌜ r ≡ and (leb 1 len) (and (eqb (len % 4) 0) (leb len 1024)) ⌝ }
+{
+    1 <= len && (len % 4 == 0 && len <= 1024)
+}
+
+// A verdict with zeros for every term.
+fn bare(verdict: Verdict) -> Facts
+    ensures { λ r. ⌜ r ≡ bareFacts verdict ⌝ }
+{
+    Facts {
+        verdict: verdict,
+        ins: [0u32; 256],
+        outs: [0u32; 256],
+        sizes: [0u32; 256],
+    }
+}
+
+// 3 to 8: the first refusal, or the facts of every term.
+fn scanned(width: u32, table: &[u32]) -> Facts
+    requires { ⌜ (width ≤ 32) × (length (now table) ≤ 1024) ⌝ }
+    ensures { λ r. ⌜ Scanned width (now (table .entry)) r ⌝ }
+{
+    let n = table.len() / 4;
+    let mut ins = [0u32; 256];
+    let mut outs = [0u32; 256];
+    let mut sizes = [0u32; 256];
+    let mut k: usize = 0;
+    let verdict = 'terms: loop {
+        if k == n {
+            break Verdict::Accepted;
+        }
+        let early = kinds::early(width, table, k);
+        if early != 0 {
+            break Verdict::Refused(early, k as u32);
+        }
+        let uses = kinds::operands(number(table, k, 0));
+        let mut j: usize = 1;
+        while j <= uses {
+            if k <= operand(table, k, j) {
+                break 'terms Verdict::Refused(6, k as u32);
+            }
+            j = j + 1;
+        }
+        let shape = shapes::shape_of(table, k, &ins, &outs, &sizes);
+        match shape {
+            Shape::Gives(known) => {
+                ins[k] = known.ins;
+                outs[k] = known.outs;
+                sizes[k] = known.cells;
+            }
+            Shape::Bad(refusal) => {
+                break Verdict::Refused(refusal, k as u32);
+            }
+        }
+        k = k + 1;
+    };
+    Facts {
+        verdict: verdict,
+        ins: ins,
+        outs: outs,
+        sizes: sizes,
+    }
+}
+
+// 1 to 9, and what is known of each term.
+pub fn check(width: u32, table: &[u32]) -> Facts
+    ensures { λ r. ⌜ r ≡ factsOf width (now (table .entry)) ⌝ }
+{
+    if !kinds::within(width, 1, 32) {
+        return bare(Verdict::Refused(1, 0));
+    }
+    let len = table.len();
+    if !length_fits(len) {
+        return bare(Verdict::Refused(2, 0));
+    }
+    let facts = scanned(width, table);
+    let verdict = facts.verdict;
+    let Verdict::Accepted = verdict else {
+        return bare(verdict);
+    };
+    let last = len / 4 - 1;
+    if 4096 < 6 + facts.ins[last] + facts.sizes[last] {
+        return bare(Verdict::Refused(9, 0));
+    }
+    facts
+}
+
+// The cells of term k's own block, operand by operand, in a table that passed every check.
+pub fn size(table: &[u32], ins: &[u32; 256], outs: &[u32; 256], k: usize) -> u32
+    requires { ⌜ CanSize (now table) (now ins) (now outs) k ⌝ }
+    ensures { λ r. ⌜ r ≡ «size» (tree (now (table .entry)) k) ⌝ }
+{
+    let kind = number(table, k, 0);
+    let a = operand(table, k, 1);
+    let b = operand(table, k, 2);
+    let c = operand(table, k, 3);
+    match kind {
+        1 => size(table, ins, outs, a) + size(table, ins, outs, b) + 4,
+        2 => size(table, ins, outs, a) + size(table, ins, outs, b) + 1,
+        3 => {
+            let branches = size(table, ins, outs, b) + size(table, ins, outs, c);
+            2 * ins[a] + size(table, ins, outs, a) + branches + 9 + outs[b]
+        }
+        4 => {
+            let branches = size(table, ins, outs, b) + size(table, ins, outs, c);
+            4 * ins[a] + size(table, ins, outs, a) + branches + 16
+        }
+        _ => 4,
+    }
+}

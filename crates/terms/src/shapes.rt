@@ -1,0 +1,189 @@
+// The refusals 7 and 8, and what a term gives, from what is known of its operands. Document 01: "Term tables", "Cells".
+// Sizes are kept up to 4,097, so that a sum of three of them is small whatever the table.
+ghost use mathlib.Core.Path.{_≡_};
+ghost use Prim.Native.Nat.{_*_, _+_, _<_, _≤_};
+ghost use lib.ListN.{length};
+ghost use Rattle.meaning.specs.Terms.{numberOf, leaf};
+ghost use Rattle.meaning.specs.Counts.{«capped»};
+ghost use Rattle.terms.specs.Shapes.{
+  Small,
+  readAt,
+  testPasses,
+  seqShape,
+  parShape,
+  iteShape,
+  recShape,
+  leafShape,
+  shapeOf,
+  Ready,
+};
+
+// What is known of a term: its words in and out, and its cells up to the cap.
+pub struct Known {
+    pub ins: u32,
+    pub outs: u32,
+    pub cells: u32,
+}
+
+// What a term gives, or the number of its refusal.
+pub enum Shape {
+    Gives(Known),
+    Bad(u32),
+}
+
+// A sum of cells up to the cap.
+fn capped(cells: u32) -> u32
+    ensures { λ r. ⌜ r ≡ «capped» cells ⌝ }
+{
+    if cells < 4097 { cells } else { 4097 }
+}
+
+// What the arrays know of operand j of term k.
+fn read(
+    table: &[u32],
+    k: usize,
+    j: usize,
+    ins: &[u32; 256],
+    outs: &[u32; 256],
+    sizes: &[u32; 256],
+) -> Known
+    requires { ⌜ (j < 4) × (k * 4 + 4 ≤ length (now table)) × (numberOf (now table) k j < 256) ⌝ }
+    ensures { λ r. ⌜ r ≡ readAt (now (ins .entry)) (now (outs .entry)) (now (sizes .entry))
+        (numberOf (now (table .entry)) k j) ⌝ }
+{
+    let f = crate::operand(table, k, j);
+    Known {
+        ins: ins[f],
+        outs: outs[f],
+        cells: sizes[f],
+    }
+}
+
+// Seq: g takes what f gives.
+fn seq_shape(f: Known, g: Known) -> Shape
+    requires { ⌜ (Small f) × (Small g) ⌝ }
+    ensures { λ r. ⌜ r ≡ seqShape f g ⌝ }
+{
+    if f.outs != g.ins {
+        return Shape::Bad(7);
+    }
+    Shape::Gives(Known {
+        ins: f.ins,
+        outs: g.outs,
+        cells: capped(f.cells + g.cells + 4),
+    })
+}
+
+// Par: both take the same and give at most 16 words.
+fn par_shape(f: Known, g: Known) -> Shape
+    requires { ⌜ (Small f) × (Small g) ⌝ }
+    ensures { λ r. ⌜ r ≡ parShape f g ⌝ }
+{
+    if f.ins != g.ins {
+        return Shape::Bad(7);
+    }
+    if 16 < f.outs + g.outs {
+        return Shape::Bad(8);
+    }
+    Shape::Gives(Known {
+        ins: f.ins,
+        outs: f.outs + g.outs,
+        cells: capped(f.cells + g.cells + 1),
+    })
+}
+
+// Ite and Rec: all three take the same, and the test gives one word.
+fn test_passes(e: Known, f: Known, g: Known) -> bool
+    ensures { λ r. ⌜ r ≡ testPasses e f g ⌝ }
+{
+    e.ins == f.ins && (e.ins == g.ins && e.outs == 1)
+}
+
+// Ite: both branches give the same.
+fn ite_shape(e: Known, f: Known, g: Known) -> Shape
+    requires { ⌜ (Small e) × (Small f) × (Small g) ⌝ }
+    ensures { λ r. ⌜ r ≡ iteShape e f g ⌝ }
+{
+    if !test_passes(e, f, g) {
+        return Shape::Bad(7);
+    }
+    if f.outs != g.outs {
+        return Shape::Bad(7);
+    }
+    Shape::Gives(Known {
+        ins: e.ins,
+        outs: f.outs,
+        cells: capped(2 * e.ins + e.cells + f.cells + g.cells + 9 + f.outs),
+    })
+}
+
+// Rec: g gives what the next round takes.
+fn rec_shape(e: Known, f: Known, g: Known) -> Shape
+    requires { ⌜ (Small e) × (Small f) × (Small g) ⌝ }
+    ensures { λ r. ⌜ r ≡ recShape e f g ⌝ }
+{
+    if !test_passes(e, f, g) {
+        return Shape::Bad(7);
+    }
+    if g.outs != e.ins {
+        return Shape::Bad(7);
+    }
+    Shape::Gives(Known {
+        ins: e.ins,
+        outs: f.outs,
+        cells: capped(4 * e.ins + e.cells + f.cells + g.cells + 16),
+    })
+}
+
+// A leaf takes what it says itself, or what its operation reads.
+fn leaf_shape(kind: u32, a: u32) -> Shape
+    ensures { λ r. ⌜ r ≡ leafShape kind a ⌝ }
+{
+    let ins = if kind < 13 {
+        a
+    } else if kind < 20 {
+        2
+    } else {
+        1
+    };
+    Shape::Gives(Known {
+        ins: ins,
+        outs: 1,
+        cells: 4,
+    })
+}
+
+// What term k gives, its operands being lower terms that the arrays know.
+pub fn shape_of(
+    table: &[u32],
+    k: usize,
+    ins: &[u32; 256],
+    outs: &[u32; 256],
+    sizes: &[u32; 256],
+) -> Shape
+    requires { ⌜ Ready (now table) k (now ins) (now outs) (now sizes) ⌝ }
+    ensures { λ r. ⌜ r ≡ shapeOf (now (table .entry)) k ⌝ }
+{
+    let kind = crate::number(table, k, 0);
+    match kind {
+        1 => seq_shape(
+            read(table, k, 1, ins, outs, sizes),
+            read(table, k, 2, ins, outs, sizes),
+        ),
+        2 => par_shape(
+            read(table, k, 1, ins, outs, sizes),
+            read(table, k, 2, ins, outs, sizes),
+        ),
+        3 => ite_shape(
+            read(table, k, 1, ins, outs, sizes),
+            read(table, k, 2, ins, outs, sizes),
+            read(table, k, 3, ins, outs, sizes),
+        ),
+        4 => rec_shape(
+            read(table, k, 1, ins, outs, sizes),
+            read(table, k, 2, ins, outs, sizes),
+            read(table, k, 3, ins, outs, sizes),
+        ),
+        _ => leaf_shape(kind, crate::number(table, k, 1)),
+    }
+}
