@@ -53,9 +53,13 @@ module _ {t : List ℕ} {k : ℕ} {i o s : List ℕ} (R : Ready t k i o s) where
         let low = operand-low 2 n in
         let F = operandTree t k 1 in
         let G = operandTree t k 2 in
-        rw (operand-known 2 n 1 (omega arith) (omega arith) p, operand-known 2 n 2 (omega arith) (omega arith) q, e,
-            tree-seq t k e (low 1 (omega arith) (omega arith)) (low 2 (omega arith) (omega arith)),
-            capped-two (size F) (size G) 4)
+        rw (
+          operand-known 2 n 1 (omega arith) (omega arith) p,
+          operand-known 2 n 2 (omega arith) (omega arith) q,
+          e,
+          tree-seq t k e (low 1 (omega arith) (omega arith)) (low 2 (omega arith) (omega arith)),
+          capped-two (size F) (size G) 4,
+        )
 
     pub par-found : kindOf t k ≡ 2 → parShape f g ≡ shapeOf t k
     unfolding parShape shapeOf countsFit parSmall
@@ -64,9 +68,13 @@ module _ {t : List ℕ} {k : ℕ} {i o s : List ℕ} (R : Ready t k i o s) where
         let low = operand-low 2 n in
         let F = operandTree t k 1 in
         let G = operandTree t k 2 in
-        rw (operand-known 2 n 1 (omega arith) (omega arith) p, operand-known 2 n 2 (omega arith) (omega arith) q, e,
-            tree-par t k e (low 1 (omega arith) (omega arith)) (low 2 (omega arith) (omega arith)),
-            capped-two (size F) (size G) 1)
+        rw (
+          operand-known 2 n 1 (omega arith) (omega arith) p,
+          operand-known 2 n 2 (omega arith) (omega arith) q,
+          e,
+          tree-par t k e (low 1 (omega arith) (omega arith)) (low 2 (omega arith) (omega arith)),
+          capped-two (size F) (size G) 1,
+        )
 
   -- Ite and Rec.
   module _ {e f g : Known} (p : e ≡ readAt i o s (numberOf t k 1)) (q : f ≡ readAt i o s (numberOf t k 2))
@@ -79,10 +87,14 @@ module _ {t : List ℕ} {k : ℕ} {i o s : List ℕ} (R : Ready t k i o s) where
         let E = operandTree t k 1 in
         let F = operandTree t k 2 in
         let G = operandTree t k 3 in
-        rw (operand-known 3 n 1 (omega arith) (omega arith) p, operand-known 3 n 2 (omega arith) (omega arith) q,
-            operand-known 3 n 3 (omega arith) (omega arith) r, d,
-            tree-ite t k d (low 1 (omega arith) (omega arith)) (low 2 (omega arith) (omega arith)) (low 3 (omega arith) (omega arith)),
-            capped-four (2 * ins E) (size E) (size F) (size G) 9 (outs F))
+        rw (
+          operand-known 3 n 1 (omega arith) (omega arith) p,
+          operand-known 3 n 2 (omega arith) (omega arith) q,
+          operand-known 3 n 3 (omega arith) (omega arith) r,
+          d,
+          tree-ite t k d (low 1 (omega arith) (omega arith)) (low 2 (omega arith) (omega arith)) (low 3 (omega arith) (omega arith)),
+          capped-four (2 * ins E) (size E) (size F) (size G) 9 (outs F),
+        )
 
     pub rec-found : kindOf t k ≡ 4 → recShape e f g ≡ shapeOf t k
     unfolding recShape shapeOf countsFit parSmall
@@ -92,10 +104,14 @@ module _ {t : List ℕ} {k : ℕ} {i o s : List ℕ} (R : Ready t k i o s) where
         let E = operandTree t k 1 in
         let F = operandTree t k 2 in
         let G = operandTree t k 3 in
-        rw (operand-known 3 n 1 (omega arith) (omega arith) p, operand-known 3 n 2 (omega arith) (omega arith) q,
-            operand-known 3 n 3 (omega arith) (omega arith) r, d,
-            tree-rec t k d (low 1 (omega arith) (omega arith)) (low 2 (omega arith) (omega arith)) (low 3 (omega arith) (omega arith)),
-            capped-three (4 * ins E) (size E) (size F) (size G) 16)
+        rw (
+          operand-known 3 n 1 (omega arith) (omega arith) p,
+          operand-known 3 n 2 (omega arith) (omega arith) q,
+          operand-known 3 n 3 (omega arith) (omega arith) r,
+          d,
+          tree-rec t k d (low 1 (omega arith) (omega arith)) (low 2 (omega arith) (omega arith)) (low 3 (omega arith) (omega arith)),
+          capped-three (4 * ins E) (size E) (size F) (size G) 16,
+        )
 
 -- Every other kind is a leaf.
 pub leaf-found : (t : List ℕ) (k : ℕ) → (kindOf t k ≡ 1 → ⊥) → (kindOf t k ≡ 2 → ⊥) → (kindOf t k ≡ 3 → ⊥) → (kindOf t k ≡ 4 → ⊥) →

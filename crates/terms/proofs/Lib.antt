@@ -2,3 +2,5 @@ pub mod Operands
 pub mod Combined
 pub mod Columns
 pub mod Scan
+pub mod Whole
+pub mod Sizes

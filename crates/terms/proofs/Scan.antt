@@ -134,6 +134,7 @@ module _ {w : ℕ} {t i o s : List ℕ} {k : ℕ} (G : Going w t i o s k) where
       record {
         first = sym (ap (λ (n : ℕ). firstRefusal (refusalAt w t) n k verdict.Accepted) u) ∙ G .same;
         known = λ z. rw (← e, G .ins-kept, G .outs-kept, G .sizes-kept);
+        few = λ z j l. G .few j (omega arith) .few-ins;
       }
 
   module _ (l : k < count t) where
@@ -149,6 +150,7 @@ module _ {w : ℕ} {t i o s : List ℕ} {k : ℕ} (G : Going w t i o s k) where
     refuses r e h = record {
       first = sym (step ∙ rw (e, ne-eqb r 0 h)) ∙ G .same;
       known = λ z. let y : _≡_ {A = ℕ} 0 1 = cc in absurd (omega arith);
+      few = λ z. let y : _≡_ {A = ℕ} 0 1 = cc in absurd (omega arith);
     }
 
     module _ (long : length t ≤ 1024) where
@@ -158,8 +160,14 @@ module _ {w : ℕ} {t i o s : List ℕ} {k : ℕ} (G : Going w t i o s k) where
         few = omega arith;
         below = h;
         known = λ j u.
-            rw (G .ins-kept, G .outs-kept, G .sizes-kept, at-kept (λ m. ins (tree t m)) k j u,
-                at-kept (λ m. outs (tree t m)) k j u, at-kept (λ m. capped (size (tree t m))) k j u);
+            rw (
+              G .ins-kept,
+              G .outs-kept,
+              G .sizes-kept,
+              at-kept (λ m. ins (tree t m)) k j u,
+              at-kept (λ m. outs (tree t m)) k j u,
+              at-kept (λ m. capped (size (tree t m))) k j u,
+            );
         small = λ j u. known-small (tree t j) (G .few j u .few-ins) (G .few j u .few-outs);
       }
 

@@ -16,10 +16,11 @@ use Rattle.meaning.specs.Answers.{column, knownFacts}
 abbrev pub bareFacts : Verdict → Facts
 bareFacts v = record { verdict = v; ins = padded 256 []; outs = padded 256 []; sizes = padded 256 [] }
 
--- The first refusal of 3 to 8; where there is none, the facts of every term.
+-- The first refusal of 3 to 8; where there is none, the facts of every term, none of which takes more than 16 words.
 pub record Scanned (w : ℕ) (t : List ℕ) (r : Facts) : Type 0 where
   pub first : r .verdict ≡ firstRefusal (refusalAt w t) (count t) 0 verdict.Accepted
   pub known : r .verdict ≡ verdict.Accepted → r ≡ knownFacts t
+  pub few : r .verdict ≡ verdict.Accepted → (k : ℕ) → k < count t → ins (tree t k) ≤ 16
 
 -- A term of an accepted table whose size is within the limit, with the arrays of its word counts.
 pub record CanSize (t i o : List ℕ) (k : ℕ) : Type 0 where

@@ -138,20 +138,16 @@ pub fn size(table: &[u32], ins: &[u32; 256], outs: &[u32; 256], k: usize) -> u32
     ensures { λ r. ⌜ r ≡ «size» (tree (now (table .entry)) k) ⌝ }
 {
     let kind = number(table, k, 0);
+    if kinds::operands(kind) == 0 {
+        return 4;
+    }
     let a = operand(table, k, 1);
     let b = operand(table, k, 2);
-    let c = operand(table, k, 3);
+    let two = size(table, ins, outs, a) + size(table, ins, outs, b);
     match kind {
-        1 => size(table, ins, outs, a) + size(table, ins, outs, b) + 4,
-        2 => size(table, ins, outs, a) + size(table, ins, outs, b) + 1,
-        3 => {
-            let branches = size(table, ins, outs, b) + size(table, ins, outs, c);
-            2 * ins[a] + size(table, ins, outs, a) + branches + 9 + outs[b]
-        }
-        4 => {
-            let branches = size(table, ins, outs, b) + size(table, ins, outs, c);
-            4 * ins[a] + size(table, ins, outs, a) + branches + 16
-        }
-        _ => 4,
+        1 => two + 4,
+        2 => two + 1,
+        3 => two + size(table, ins, outs, operand(table, k, 3)) + 2 * ins[a] + 9 + outs[b],
+        _ => two + size(table, ins, outs, operand(table, k, 3)) + 4 * ins[a] + 16,
     }
 }

@@ -131,9 +131,11 @@ loop-again : tie.Need-loop-again Inv-loop μ-loop Inv-terms μ-terms
 loop-again c =
     let v = c .before .before .before .loop .inv in
     let e = turn (c .before .before .before .before) in
-    let j = c .before .before .before .loop .j in
-    (omega (arith, v .0), omega (arith, c .before .before .loop-test .taken),
-    one-more-below (table e) (term e) j (v .2) (omega (arith, c .before .operand .ensures, c .if3 .left)))
+    let j = c .before .before .before .loop .j in (
+      omega (arith, v .0),
+      omega (arith, c .before .before .loop-test .taken),
+      one-more-below (table e) (term e) j (v .2) (omega (arith, c .before .operand .ensures, c .if3 .left)),
+    )
 
 shape-of-requires : tie.Need-shape-of-requires Inv-loop μ-loop Inv-terms μ-terms
 shape-of-requires c κs = let a = c .before .before .before in let e = at a in ready (e .before .terms .inv) (under e) (long e) (passed a)
@@ -195,7 +197,7 @@ returns-3 c =
     let e = turn u in
     let j = c .before .before .before .loop .j in
     let h = one-above (table e) (term e) (u .operands .result) j (c .before .before .before .loop .inv .0) (c .before .before .loop-test .taken)
-        (omega (arith, c .before .operand .ensures, c .if3 .taken)) in
+    (omega (arith, c .before .operand .ensures, c .if3 .taken)) in
     refuses (e .before .terms .inv) (under e) 6
     (operand-refuses (width e) (table e) (term e) (not-early (u .before .before)) (rw (← uses-are u) h)) (λ z. omega arith)
 

@@ -27,8 +27,10 @@ unfolding earlyOf
 returns-2 c =
     let b = c .before in
     let a = b .before .before in
-    rw (sym (a .known .ensures ∙ ap knownKind (a .before .number .ensures)) ∙ not-false _ (b .before .if1 .left),
-        sym (b .unused-zero .ensures) ∙ not-true _ (c .if2 .taken))
+    rw (
+      sym (a .known .ensures ∙ ap knownKind (a .before .number .ensures)) ∙ not-false _ (b .before .if1 .left),
+      sym (b .unused-zero .ensures) ∙ not-true _ (c .if2 .taken),
+    )
 
 values-fit-requires : tie.Need-values-fit-requires
 values-fit-requires c κs = search needs
@@ -39,8 +41,11 @@ returns-3 c =
     let d = c .before in
     let b = d .before .before in
     let a = b .before .before in
-    rw (sym (a .known .ensures ∙ ap knownKind (a .before .number .ensures)) ∙ not-false _ (b .before .if1 .left),
-        sym (b .unused-zero .ensures) ∙ not-false _ (d .before .if2 .left), sym (d .values-fit .ensures) ∙ not-true _ (c .if3 .taken))
+    rw (
+      sym (a .known .ensures ∙ ap knownKind (a .before .number .ensures)) ∙ not-false _ (b .before .if1 .left),
+      sym (b .unused-zero .ensures) ∙ not-false _ (d .before .if2 .left),
+      sym (d .values-fit .ensures) ∙ not-true _ (c .if3 .taken),
+    )
 
 returns-4 : tie.Need-returns-4
 unfolding earlyOf
@@ -48,8 +53,11 @@ returns-4 c =
     let d = c .before in
     let b = d .before .before in
     let a = b .before .before in
-    rw (sym (a .known .ensures ∙ ap knownKind (a .before .number .ensures)) ∙ not-false _ (b .before .if1 .left),
-        sym (b .unused-zero .ensures) ∙ not-false _ (d .before .if2 .left), sym (d .values-fit .ensures) ∙ not-false _ (c .if3 .left))
+    rw (
+      sym (a .known .ensures ∙ ap knownKind (a .before .number .ensures)) ∙ not-false _ (b .before .if1 .left),
+      sym (b .unused-zero .ensures) ∙ not-false _ (d .before .if2 .left),
+      sym (d .values-fit .ensures) ∙ not-false _ (c .if3 .left),
+    )
 
 pub early-spec : {M : Type 1} → statement M
 early-spec =

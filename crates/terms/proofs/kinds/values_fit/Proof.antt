@@ -28,8 +28,12 @@ returns c =
     let w = c .before .before in
     let m = w .before in
     let d = m .before in
-    rw (sym (d .before .before .number .ensures) ∙ m .match .keys1, ← d .before .number2 .ensures, ← d .number3 .ensures,
-        sym (w .within .ensures) ∙ c .before .if1 .taken) (c .fits2 .ensures)
+    rw (
+      sym (d .before .before .number .ensures) ∙ m .match .keys1,
+      ← d .before .number2 .ensures,
+      ← d .number3 .ensures,
+      sym (w .within .ensures) ∙ c .before .if1 .taken,
+    ) (c .fits2 .ensures)
 
 returns-2 : tie.Need-returns-2
 returns-2 c =
@@ -43,8 +47,12 @@ returns-3 c =
     let w = c .before in
     let m = w .before in
     let d = m .before in
-    rw (sym (d .before .before .number .ensures) ∙ m .match .keys2, ← d .before .number2 .ensures, ← d .number3 .ensures,
-        sym (w .within2 .ensures) ∙ c .if2 .taken)
+    rw (
+      sym (d .before .before .number .ensures) ∙ m .match .keys2,
+      ← d .before .number2 .ensures,
+      ← d .number3 .ensures,
+      sym (w .within2 .ensures) ∙ c .if2 .taken,
+    )
 
 returns-4 : tie.Need-returns-4
 returns-4 c =

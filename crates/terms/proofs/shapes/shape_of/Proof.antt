@@ -52,8 +52,7 @@ seq-shape-requires : tie.Need-seq-shape-requires
 seq-shape-requires c κs =
     let m = c .before .before in
     let h = seq-has m in
-    let R = start (m .before) .pre in
-    (
+    let R = start (m .before) .pre in (
       operand-small R 2 h 1 (omega arith) (omega arith) (c .before .read .ensures),
       operand-small R 2 h 2 (omega arith) (omega arith) (c .read2 .ensures),
     )
@@ -68,8 +67,7 @@ par-shape-requires : tie.Need-par-shape-requires
 par-shape-requires c κs =
     let m = c .before .before in
     let h = par-has m in
-    let R = start (m .before) .pre in
-    (
+    let R = start (m .before) .pre in (
       operand-small R 2 h 1 (omega arith) (omega arith) (c .before .read3 .ensures),
       operand-small R 2 h 2 (omega arith) (omega arith) (c .read4 .ensures),
     )
@@ -87,8 +85,7 @@ ite-shape-requires : tie.Need-ite-shape-requires
 ite-shape-requires c κs =
     let m = c .before .before .before in
     let h = ite-has m in
-    let R = start (m .before) .pre in
-    (
+    let R = start (m .before) .pre in (
       operand-small R 3 h 1 (omega arith) (omega arith) (c .before .before .read5 .ensures),
       operand-small R 3 h 2 (omega arith) (omega arith) (c .before .read6 .ensures),
       operand-small R 3 h 3 (omega arith) (omega arith) (c .read7 .ensures),
@@ -107,8 +104,7 @@ rec-shape-requires : tie.Need-rec-shape-requires
 rec-shape-requires c κs =
     let m = c .before .before .before in
     let h = rec-has m in
-    let R = start (m .before) .pre in
-    (
+    let R = start (m .before) .pre in (
       operand-small R 3 h 1 (omega arith) (omega arith) (c .before .before .read8 .ensures),
       operand-small R 3 h 2 (omega arith) (omega arith) (c .before .read9 .ensures),
       operand-small R 3 h 3 (omega arith) (omega arith) (c .read10 .ensures),
