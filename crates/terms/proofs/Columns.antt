@@ -1,6 +1,6 @@
 -- Law: what an array of 256 holds that is filled in order: the facts of the terms so far, then zeros.
 -- Cited by the scan, by `check`, and by all who read a table's facts. Assumes nothing.
-use Prim.Native.Nat.{ℕ, zero, suc, _+_, _-_, _<_, _≤_}
+use Prim.Native.Nat.{ℕ, zero, suc, _+_, _-_, _<_}
 use mathlib.Core.Path.{_≡_, refl, sym, ap, _∙_}
 use mathlib.Core.List.{List, [], _∷_, _++_, append-assoc}
 use mathlib.Core.Logic.{inl, inr}

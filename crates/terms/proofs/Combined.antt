@@ -7,7 +7,7 @@ use lib.ListN.{length}
 use native.Mathlib.Nat.{min-le-right}
 use native.Mathlib.Omega.{arith}
 use borrow.Author.Tests.{ne-eqb}
-use Rattle.meaning.specs.Terms.{numberOf, kindOf, Term, leaf, seq, par, ite, rec, tree}
+use Rattle.meaning.specs.Terms.{numberOf, kindOf, Term}
 use Rattle.meaning.specs.Counts.{ins, outs, size, capped}
 use Rattle.meaning.specs.Checks.{operandsOf, operandTree, countsFit, parSmall}
 use Rattle.meaning.proofs.Decoded.{tree-seq, tree-par, tree-ite, tree-rec, tree-leaf}

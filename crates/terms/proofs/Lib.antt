@@ -4,3 +4,5 @@ pub mod Columns
 pub mod Scan
 pub mod Whole
 pub mod Sizes
+pub mod Agreement
+pub mod Unique

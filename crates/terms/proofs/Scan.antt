@@ -1,15 +1,15 @@
 -- Law: the scan of a table from term k on, with the arrays of the terms below: where it ends, refuses and goes on.
 -- Cited by the proof of `scanned`. Assumes nothing.
-use Prim.Native.Nat.{ℕ, zero, suc, _+_, _*_, _-_, _≤_, _<_}
-use mathlib.Core.Path.{_≡_, refl, sym, ap, _∙_, subst}
+use Prim.Native.Nat.{ℕ, suc, _+_, _-_, _≤_, _<_}
+use mathlib.Core.Path.{_≡_, refl, sym, ap, _∙_}
 use mathlib.Core.Bool.{Bool, true, false}
-use mathlib.Core.List.{List, []}
+use mathlib.Core.List.{List}
 use mathlib.Core.Logic.{inl, inr}
 use native.Mathlib.Numerals.{add-one}
 use native.Mathlib.Omega.{arith}
 use lib.Dec.{eqb, ltb}
 use lib.ListN.{length, set, replicate}
-use borrow.Author.Tests.{eq-eqb, ne-eqb, le-ltb}
+use borrow.Author.Tests.{ne-eqb, le-ltb}
 use Rattle.meaning.specs.declared.Verdict.{Verdict}
 use Rattle.meaning.specs.declared.Verdict.the-variants as verdict
 use Rattle.meaning.specs.declared.Facts.{Facts}
@@ -23,7 +23,7 @@ use Rattle.meaning.proofs.Accepted.{Fits, seq-fits, par-fits, ite-fits, rec-fit
 use Rattle.terms.specs.declared.shapes.Known.{Known}
 use Rattle.terms.specs.declared.shapes.Shape.the-variants.{Gives, Bad}
 use Rattle.terms.specs.Early.{earlyOf}
-use Rattle.terms.specs.Shapes.{knownOf, readAt, shapeOf, Ready}
+use Rattle.terms.specs.Shapes.{knownOf, shapeOf, Ready}
 use Rattle.terms.specs.Scans.{Scanned}
 use Rattle.terms.proofs.Combined.{known-small}
 use Rattle.terms.proofs.Columns.{at-kept, kept-next}

@@ -8,7 +8,7 @@ use native.Mathlib.Omega.{arith}
 use lib.ListN.{length}
 use borrow.Author.Tests.{ne-eqb}
 use Rattle.meaning.specs.Choices.{at}
-use Rattle.meaning.specs.Terms.{numberOf, kindOf, count, tree}
+use Rattle.meaning.specs.Terms.{numberOf, kindOf, tree}
 use Rattle.meaning.specs.Counts.{ins, outs, size}
 use Rattle.meaning.specs.Checks.{operandsOf, operandTree}
 use Rattle.meaning.proofs.Tests.{split}

@@ -1,7 +1,7 @@
 -- Law: the facts of a table, from the width, the length, the scan and the cells of the main term, in the order of the checks.
 -- Cited by the proof of `check`. Assumes nothing.
-use Prim.Native.Nat.{ℕ, zero, suc, _+_, _-_, _%_, _≤_, _<_}
-use mathlib.Core.Path.{_≡_, refl, sym, ap, _∙_}
+use Prim.Native.Nat.{ℕ, zero, suc, _+_, _%_, _≤_, _<_}
+use mathlib.Core.Path.{_≡_, refl, _∙_}
 use mathlib.Core.Bool.{Bool, true, false}
 use mathlib.Core.List.{List}
 use native.Mathlib.Nat.{min-le-right}
@@ -13,10 +13,10 @@ use Rattle.meaning.specs.declared.Verdict.{Verdict}
 use Rattle.meaning.specs.declared.Verdict.the-variants as verdict
 use Rattle.meaning.specs.declared.Facts.{Facts}
 use Rattle.meaning.specs.Choices.{pick, at}
-use Rattle.meaning.specs.Terms.{count, lastOf, tree, mainOf}
+use Rattle.meaning.specs.Terms.{count, lastOf, mainOf}
 use Rattle.meaning.specs.Counts.{ins, size, capped, wholeSize}
 use Rattle.meaning.specs.Checks.{widthFits, lengthFits, refusalAt, sizeVerdict, firstRefusal, verdictOf}
-use Rattle.meaning.specs.Answers.{onVerdict, knownFacts, factsOf}
+use Rattle.meaning.specs.Answers.{onVerdict, factsOf}
 use Rattle.meaning.proofs.Tests.{both}
 use Rattle.terms.specs.Scans.{bareFacts, Scanned}
 use Rattle.terms.proofs.Columns.{at-column}
@@ -76,7 +76,8 @@ module _ (w : ℕ) (t : List ℕ) where
 
         pub main-few : (at (r .ins) (lastOf t) ≤ 16) × (at (r .sizes) (lastOf t) ≤ 4097)
         main-few =
-            (omega (arith, main-ins, S .few e (lastOf t) (last-below t L .0)), omega (arith, main-size, min-le-right (size (mainOf t)) 4097))
+            let few = S .few e (lastOf t) (last-below t L .0) in
+            (omega (arith, main-ins), omega (arith, main-size, min-le-right (size (mainOf t)) 4097))
 
         pub size-refused : 4096 < 6 + at (r .ins) (lastOf t) + at (r .sizes) (lastOf t) → bareFacts (verdict.Refused 9 0) ≡ factsOf w t
         unfolding factsOf

@@ -1,4 +1,5 @@
-// What a kind uses, and the refusals 3 to 5, which a term's own numbers decide. Document 01: "Refusal numbers".
+// What a kind uses, and the refusals 3 to 5, which a term's own numbers decide.
+// Document 01: "Term tables", "Refusal numbers".
 ghost use mathlib.Core.Path.{_≡_};
 ghost use Prim.Native.Nat.{_*_, _+_, _≤_};
 ghost use lib.ListN.{length};

@@ -1,5 +1,6 @@
-// A table's numbers and its checks 1 to 9, with what they find of each term; and the sizes again, by recursion.
-// A refused table has its number and place, and zeros for every term. Document 01: "Term tables", "Refusal numbers".
+// A table's numbers; its checks 1 to 9, with what they find of each term; and a size by recursion.
+// A refused table has its number and place, and zeros for every term.
+// Document 01: "Term tables", "Refusal numbers".
 //
 //     check    the width and the length, then `scanned`, then the size of the whole circuit
 //     scanned  3 to 8 term by term, lowest first: `kinds::early`, the operands, `shapes::shape_of`

@@ -1,9 +1,10 @@
-// The refusals 7 and 8, and what a term gives, from what is known of its operands. Document 01: "Term tables", "Cells".
+// The refusals 7 and 8, and what a term gives, from what is known of its operands.
+// Document 01: "Term tables", "Cells".
 // Sizes are kept up to 4,097, so that a sum of three of them is small whatever the table.
 ghost use mathlib.Core.Path.{_≡_};
 ghost use Prim.Native.Nat.{_*_, _+_, _<_, _≤_};
 ghost use lib.ListN.{length};
-ghost use Rattle.meaning.specs.Terms.{numberOf, leaf};
+ghost use Rattle.meaning.specs.Terms.{numberOf};
 ghost use Rattle.meaning.specs.Counts.{«capped»};
 ghost use Rattle.terms.specs.Shapes.{
   Small,

@@ -12,7 +12,8 @@ use Rattle.meaning.specs.Terms.{kindOf, numberOf, tree}
 use Rattle.meaning.specs.Counts.{size}
 use Rattle.meaning.specs.Checks.{operandsOf, operandTree}
 use Rattle.terms.specs.Scans.{CanSize}
-use Rattle.terms.proofs.Sizes.{place, size-leaf, lower, indices, two-small, first-part, second-part, third-part, third-lower, seq-size, par-size, ite-size, rec-size, kind-rec}
+use Rattle.terms.proofs.Sizes.{place, size-leaf, lower, indices, two-small, first-part, second-part, third-part, third-lower}
+use Rattle.terms.proofs.Sizes.{seq-size, par-size, ite-size, rec-size, kind-rec}
 use Rattle.terms.proofs.size.Reads as size-reads
 use Rattle.terms.proofs.size.Kinds as size-kinds
 use Rattle.terms.proofs.+size.Lts-size as size-lts
@@ -111,9 +112,14 @@ ite-whole m x =
     let e = joins m d in
     let k = is-ite m (x .before .before) in
     let third : x .size3 .result ≡ part m e 3 =
-        x .size3 .ensures ∙ ap (λ (n : ℕ). size (tree (table m e) n)) (x .before .operand3 .ensures) in
-    omega (arith, first m d, second m d, ite-size (can m e) (some m e) (omega (arith, k)) _ _ (d .before .before .before .operand .ensures)
-    (d .before .before .operand2 .ensures) k)
+    x .size3 .ensures ∙ ap (λ (n : ℕ). size (tree (table m e) n)) (x .before .operand3 .ensures) in
+    omega (
+      arith,
+      first m d,
+      second m d,
+      ite-size (can m e) (some m e) (omega (arith, k)) _ _ (d .before .before .before .operand .ensures)
+          (d .before .before .operand2 .ensures) k,
+    )
 
 -- A Rec, with its third operand sized.
 abbrev Rec : ℕ → Type 0
@@ -137,9 +143,14 @@ rec-whole m x =
     let e = joins m d in
     let k = is-rec m (x .before .before) in
     let third : x .size4 .result ≡ part m e 3 =
-        x .size4 .ensures ∙ ap (λ (n : ℕ). size (tree (table m e) n)) (x .before .operand4 .ensures) in
-    omega (arith, first m d, second m d, rec-size (can m e) (some m e) (omega (arith, k)) _ _ (d .before .before .before .operand .ensures)
-    (d .before .before .operand2 .ensures) k)
+    x .size4 .ensures ∙ ap (λ (n : ℕ). size (tree (table m e) n)) (x .before .operand4 .ensures) in
+    omega (
+      arith,
+      first m d,
+      second m d,
+      rec-size (can m e) (some m e) (omega (arith, k)) _ _ (d .before .before .before .operand .ensures)
+          (d .before .before .operand2 .ensures) k,
+    )
 
 size-number-requires : (m : ℕ) → size-lts.Need-number-requires (size-calls m) (size-at m) size-reads.Post
 size-number-requires m c κs = (omega arith, place (c .before .pre .1))

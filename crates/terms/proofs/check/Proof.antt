@@ -1,4 +1,5 @@
--- Proof: `terms::check` meets its contract, check by check; a refusal of the scan is passed on. Mathematics in `proofs.Whole`. Assumes nothing.
+-- Proof: `terms::check` meets its contract, check by check; a refusal of the scan is passed on.
+-- Mathematics in `proofs.Whole`. Assumes nothing.
 use Prim.Native.Nat.{_≤_, _<_}
 use mathlib.Core.Path.{_≡_, sym, _∙_}
 use mathlib.Core.Bool.{true}
@@ -8,7 +9,8 @@ use borrow.Author.Tests.{not-true, not-false}
 use Rattle.meaning.specs.Choices.{at}
 use Rattle.meaning.specs.Terms.{count, lastOf}
 use Rattle.meaning.specs.Checks.{widthFits, lengthFits}
-use Rattle.terms.proofs.Whole.{width-refused, length-refused, width-small, last-below, scan-refused, main-few, size-refused, all-passed}
+use Rattle.terms.proofs.Whole.{width-refused, length-refused, width-small, last-below, scan-refused, main-few, size-refused}
+use Rattle.terms.proofs.Whole.{all-passed}
 use borrow.Author.Needs.{needs}
 use Rattle.terms.proofs.check.Statement.{statement}
 use Rattle.terms.proofs.check.Tie as tie
@@ -60,7 +62,9 @@ returns-2 c =
     c .bare2 .ensures ∙ length-refused _ _ (wide (e .before)) (sym (e .length-fits .ensures) ∙ not-true _ (c .before .if2 .taken))
 
 scanned-requires : tie.Need-scanned-requires
-scanned-requires c κs = (width-small _ (wide (c .before .before)), last-below (c .before .before .before .before .before .args .table .now) (long c) .2)
+scanned-requires c κs =
+    let t = c .before .before .before .before .before .args .table .now in
+    (width-small _ (wide (c .before .before)), last-below t (long c) .2)
 
 enum-told : tie.Need-enum-told
 enum-told c = search needs

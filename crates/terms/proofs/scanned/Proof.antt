@@ -11,7 +11,8 @@ use Rattle.meaning.specs.Terms.{numberOf, kindOf, count}
 use Rattle.meaning.specs.Checks.{operandsOf, operandsBelow}
 use Rattle.terms.specs.Early.{earlyOf}
 use Rattle.terms.proofs.Operands.{all-below, one-above, one-more-below, few-operands}
-use Rattle.terms.proofs.Scan.{Going, starts, ends, refuses, ready, goes-on, early-refuses, operand-refuses, shape-refuses, shape-passes}
+use Rattle.terms.proofs.Scan.{Going, starts, ends, refuses, ready, goes-on, early-refuses, operand-refuses, shape-refuses}
+use Rattle.terms.proofs.Scan.{shape-passes}
 use borrow.Author.Needs.{needs}
 use Rattle.terms.proofs.scanned.Statement.{statement}
 use Rattle.terms.proofs.scanned.Tie as tie
@@ -196,8 +197,9 @@ returns-3 c =
     let u = c .before .before .before .before in
     let e = turn u in
     let j = c .before .before .before .loop .j in
-    let h = one-above (table e) (term e) (u .operands .result) j (c .before .before .before .loop .inv .0) (c .before .before .loop-test .taken)
-    (omega (arith, c .before .operand .ensures, c .if3 .taken)) in
+    let i = c .before .before .before .loop .inv .0 in
+    let q = c .before .before .loop-test .taken in
+    let h = one-above (table e) (term e) (u .operands .result) j i q (omega (arith, c .before .operand .ensures, c .if3 .taken)) in
     refuses (e .before .terms .inv) (under e) 6
     (operand-refuses (width e) (table e) (term e) (not-early (u .before .before)) (rw (← uses-are u) h)) (λ z. omega arith)
 

@@ -40,7 +40,11 @@ returns-2 c =
     let w = c .before in
     let m = w .before in
     let d = m .before in
-    rw (sym (d .before .before .number .ensures) ∙ m .match .keys1, ← d .before .number2 .ensures, sym (w .within .ensures) ∙ c .if1 .left) (c .if1 .left)
+    rw (
+      sym (d .before .before .number .ensures) ∙ m .match .keys1,
+      ← d .before .number2 .ensures,
+      sym (w .within .ensures) ∙ c .if1 .left,
+    ) (c .if1 .left)
 
 returns-3 : tie.Need-returns-3
 returns-3 c =
@@ -59,7 +63,11 @@ returns-4 c =
     let w = c .before in
     let m = w .before in
     let d = m .before in
-    rw (sym (d .before .before .number .ensures) ∙ m .match .keys2, ← d .before .number2 .ensures, sym (w .within2 .ensures) ∙ c .if2 .left) (c .if2 .left)
+    rw (
+      sym (d .before .before .number .ensures) ∙ m .match .keys2,
+      ← d .before .number2 .ensures,
+      sym (w .within2 .ensures) ∙ c .if2 .left,
+    ) (c .if2 .left)
 
 returns-5 : tie.Need-returns-5
 returns-5 c =

@@ -79,7 +79,9 @@ read-requires-6 : tie.Need-read-requires-6
 read-requires-6 c κs = let m = c .before in readable (start (m .before) .pre) 3 (ite-has m) 2 (omega arith) (omega arith) (omega arith)
 
 read-requires-7 : tie.Need-read-requires-7
-read-requires-7 c κs = let m = c .before .before in readable (start (m .before) .pre) 3 (ite-has m) 3 (omega arith) (omega arith) (omega arith)
+read-requires-7 c κs =
+    let m = c .before .before in
+    readable (start (m .before) .pre) 3 (ite-has m) 3 (omega arith) (omega arith) (omega arith)
 
 ite-shape-requires : tie.Need-ite-shape-requires
 ite-shape-requires c κs =
@@ -98,7 +100,9 @@ read-requires-9 : tie.Need-read-requires-9
 read-requires-9 c κs = let m = c .before in readable (start (m .before) .pre) 3 (rec-has m) 2 (omega arith) (omega arith) (omega arith)
 
 read-requires-10 : tie.Need-read-requires-10
-read-requires-10 c κs = let m = c .before .before in readable (start (m .before) .pre) 3 (rec-has m) 3 (omega arith) (omega arith) (omega arith)
+read-requires-10 c κs =
+    let m = c .before .before in
+    readable (start (m .before) .pre) 3 (rec-has m) 3 (omega arith) (omega arith) (omega arith)
 
 rec-shape-requires : tie.Need-rec-shape-requires
 rec-shape-requires c κs =
@@ -132,13 +136,15 @@ returns-3 : tie.Need-returns-3
 returns-3 c =
     let m = c .before .before .before .before in
     c .ite-shape .ensures
-    ∙ ite-found (start (m .before) .pre) (c .before .before .before .read5 .ensures) (c .before .before .read6 .ensures) (c .before .read7 .ensures) (on-ite m)
+    ∙ ite-found (start (m .before) .pre) (c .before .before .before .read5 .ensures)
+    (c .before .before .read6 .ensures) (c .before .read7 .ensures) (on-ite m)
 
 returns-4 : tie.Need-returns-4
 returns-4 c =
     let m = c .before .before .before .before in
     c .rec-shape .ensures
-    ∙ rec-found (start (m .before) .pre) (c .before .before .before .read8 .ensures) (c .before .before .read9 .ensures) (c .before .read10 .ensures) (on-rec m)
+    ∙ rec-found (start (m .before) .pre) (c .before .before .before .read8 .ensures)
+    (c .before .before .read9 .ensures) (c .before .read10 .ensures) (on-rec m)
 
 returns-5 : tie.Need-returns-5
 returns-5 c =
