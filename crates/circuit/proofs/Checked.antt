@@ -35,7 +35,7 @@ module _ (w : ℕ) (net : List ℕ) (h : netlistVerdict w net ≡ verdict.Accept
   unfolding cellRefusal
   none j l = none-refused (cellRefusal w net) (cellCount net) 0 verdict.Accepted (went .2) .0 j (omega arith) (omega arith)
 
-  known : (j : ℕ) → j < cellCount net → or (bitKind (kindAt net j)) (wordKind (kindAt net j)) ≡ true
+  pub known : (j : ℕ) → j < cellCount net → or (bitKind (kindAt net j)) (wordKind (kindAt net j)) ≡ true
   known j l = not-refused _ _ 12 (none j l) .0
 
   long : (1 ≤ length net) × (length net % stride ≡ 0) × (length net ≤ 4096 * stride)

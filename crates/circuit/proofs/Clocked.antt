@@ -8,17 +8,19 @@ use native.Mathlib.Omega.{arith}
 use lib.ListN.{length, List·getD-append}
 use lib.Seq.{getD-append-seam}
 use borrow.Author.Tests.{lt-ltb, le-ltb}
+use Rattle.meaning.specs.declared.Verdict.the-variants as verdict
 use Rattle.meaning.specs.Choices.{at}
 use Rattle.meaning.specs.Words.{Words}
 use Rattle.meaning.specs.Terms.{count}
-use Rattle.circuit.specs.Cells.{Cell, kindAt, cellCount, cellsOf, value}
+use Rattle.circuit.specs.Cells.{Cell, kindAt, cellCount, cellAt, cellsOf, value}
+use Rattle.circuit.specs.Netlists.{netlistVerdict}
 use Rattle.circuit.specs.Clock.{Held, pass, starting, shown, wires}
 use Rattle.circuit.proofs.Places.{Each}
 use Rattle.circuit.proofs.Streams.{Bits, Wires}
 use Rattle.circuit.proofs.Equations.{Run, heldAt, Obeys}
-use Rattle.circuit.proofs.Indexed.{by-cells, cells-length}
+use Rattle.circuit.proofs.Indexed.{by-cells, of-cell, cells-length}
 use Rattle.circuit.proofs.Passes.{Passes, load-passes, not-passes, and-passes, or-passes, low-passes, high-passes, nonzero-passes, input-passes, constant-passes, register-passes, choice-passes, copy-passes, two-passes, one-passes}
-use Rattle.circuit.proofs.Checked.{Checked}
+use Rattle.circuit.proofs.Checked.{Checked, checked}
 
 length-new : (l : List ℕ) (v : ℕ) → length (l ++ (v ∷ [])) ≡ suc (length l)
 length-new [] v = refl
@@ -115,3 +117,20 @@ module _ (w : ℕ) (starts : ℕ → ℕ) (net : List ℕ) (load : Bits) (inputs
   wires-count (suc t) =
       let earlier : List ℕ = wires w starts net load inputs t in
       omega (arith, pass-length w (load (suc t)) (inputs (suc t)) (shown earlier) (cellsOf net) [], cells-length net)
+
+-- Said of any netlist that is accepted: no cell but a register depends on its own wire or a later one, and each wire obeys its cell's
+-- equation in the first cycle and in every later one.
+module _ (w : ℕ) (net : List ℕ) (ok : netlistVerdict w net ≡ verdict.Accepted) (n : ℕ) (there : n < cellCount net) where
+  pub lower-only : (load : Bool) (words : Words) (held : ℕ → ℕ → ℕ) (r s : ℕ → ℕ) → ((j : ℕ) → j < n → r j ≡ s j) →
+      value w load words held r (cellAt net n) ≡ value w load words held s (cellAt net n)
+  lower-only load words held r s e = reads-lower w load words held r s e (checked w net ok .cells n there)
+
+  module _ (starts : ℕ → ℕ) (load : Bits) (inputs : Wires) where
+    pub first-equation : at (wires w starts net load inputs 0) n ≡
+        value w (load 0) (inputs 0) (starting starts n) (at (wires w starts net load inputs 0)) (cellAt net n)
+    first-equation = of-cell _ net (shown-now w starts net load inputs (checked w net ok) 0) n there
+
+    pub next-equation : (t : ℕ) → at (wires w starts net load inputs (suc t)) n ≡
+        value w (load (suc t)) (inputs (suc t)) (shown (wires w starts net load inputs t) n)
+        (at (wires w starts net load inputs (suc t))) (cellAt net n)
+    next-equation t = of-cell _ net (shown-now w starts net load inputs (checked w net ok) (suc t)) n there

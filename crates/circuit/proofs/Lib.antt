@@ -24,6 +24,10 @@ pub mod PassPieces
 pub mod PassBlocks
 pub mod PassBranches
 pub mod InRange
+pub mod Simulates
 pub mod Whole
 pub mod Holds
+pub mod Unique
+pub mod Corollaries
+pub mod Traps
 pub mod Cases
