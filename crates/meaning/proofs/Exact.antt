@@ -1,7 +1,7 @@
 -- Law: evaluation within a budget answers exactly what is published: a result `ended c ws` is a run of c cycles within the
 -- budget, and `unfinished` is that the term lasts past it. So the budget is an exact cut. Assumes nothing.
 use Prim.Native.Nat.{ℕ, _≤_, _<_}
-use mathlib.Core.Path.{_≡_, refl}
+use mathlib.Core.Path.{_≡_, refl, sym}
 use mathlib.Core.Logic.{_↔_}
 use native.Mathlib.Omega.{arith}
 use Rattle.meaning.specs.Words.{Words}
@@ -34,6 +34,14 @@ module _ (w : ℕ) (T : Term) (n : ℕ) (x : Words) where
 
   pub lasts-unfinished : Lasts w T x n → evaluate w T n x ≡ unfinished
   lasts-unfinished l = missed l (evaluate w T n x) (sound w T n x)
+
+  -- Two results that say what the term does are the same.
+  pub same-said : {r s : Result} → Says w T x n r → Says w T x n s → r ≡ s
+  same-said {r} {s} p q = go r p
+    where
+      go : (a : Result) → Says w T x n a → a ≡ s
+      go unfinished l = sym (missed l s q)
+      go (ended c ws) a = sym (reached c ws (a .0) (a .1) s q)
 
   -- The two theorems.
   pub exactly-ended : (c : ℕ) (ws : Words) → (evaluate w T n x ≡ ended c ws) ↔ (Runs w T x c ws × (c ≤ n))

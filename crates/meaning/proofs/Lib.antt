@@ -10,6 +10,7 @@ pub mod Runs
 pub mod Lasts
 pub mod Sound
 pub mod Exact
+pub mod Steps
 pub mod Lengths
 pub mod Alike
 pub mod Ranges

@@ -94,7 +94,7 @@ module _ (w : ℕ) where
     round-says next n x tn (ended c v) r = round-taken next n x tn c v (r .0) (r .1) (holds v) refl
 
     -- Budget + 1 rounds are enough.
-    rounds-say : (m n : ℕ) (x : Words) → n < m → Says w (rec e f g) x n (rounds E F G m n x)
+    pub rounds-say : (m n : ℕ) (x : Words) → n < m → Says w (rec e f g) x n (rounds E F G m n x)
     rounds-say zero n x h = absurd (omega arith)
     rounds-say (suc m) n x h =
         round-says (rounds E F G m) n x (λ k y l. rounds-say m k y (omega arith)) (E n x) (te n x)
