@@ -1,0 +1,42 @@
+-- Proof: `leaves::leaf` meets its contract: without a cycle left nothing, else its word and zeros. Assumes nothing.
+use Prim.Native.Nat.{ℕ}
+use mathlib.Core.Path.{ap}
+use mathlib.Core.List.{_∷_}
+use native.Mathlib.Omega.{arith}
+use lib.ListN.{replicate}
+use Rattle.meaning.specs.Cycles.{leafWord}
+use Rattle.evaluator.proofs.Turns.{leaf-stopped, leaf-ended}
+use borrow.Author.Needs.{needs}
+use Rattle.evaluator.proofs.leaves.leaf.Statement.{statement}
+use Rattle.evaluator.proofs.leaves.leaf.Tie as tie
+use Rattle.evaluator.proofs.leaves.leaf.Reads as reads
+use Rattle.evaluator.proofs.leaves.leaf.Lts as lts
+use Rattle.evaluator.proofs.leaves.word.Reads as word-reads
+
+returns : tie.Need-returns
+returns c =
+    let a = c .before .args in
+    leaf-stopped (leafWord (a .width) (a .kind) (a .b)) (a .start) (a .limit) (a .words .now) _ (c .if1 .taken)
+
+-- src/leaves.rt:31:9
+word-requires : tie.Need-word-requires
+word-requires c κs = search needs
+
+-- src/leaves.rt:33:5
+element-write-words : tie.Need-element-write-words
+element-write-words c = search needs
+
+-- src/leaves.rt:34:16
+add-t12 : tie.Need-add-t12
+add-t12 c = search needs
+
+-- src/leaves.rt:24:1
+returns-2 : tie.Need-returns-2
+returns-2 c =
+    let s = c .before .before .before .before in
+    let a = s .args in
+    leaf-ended (leafWord (a .width) (a .kind) (a .b)) (a .start) (a .limit) (a .words .now) (omega arith) _
+    (ap (λ (v : ℕ). v ∷ replicate 15 0) (c .before .word .ensures))
+
+pub leaf-spec : {M : Type 1} → statement M
+leaf-spec = tie.close (tie.spec returns word-requires element-write-words add-t12 returns-2)

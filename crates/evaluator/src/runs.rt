@@ -1,0 +1,169 @@
+// The run of a term of an accepted table, on words that it changes in place: the term's inputs before, its outputs after.
+// `term` goes by the kind, and each combinator calls it back on its operands, whose numbers are lower. Cycles are counted from
+// the start of the whole run, up to the budget, so nothing is added that could wrap. Document 01: "Cycles".
+use crate::leaves;
+use meaning::End;
+ghost use mathlib.Core.Path.{_≡_};
+ghost use Prim.Native.Nat.{_+_, _*_, _<_, _≤_};
+ghost use lib.ListN.{length};
+ghost use Rattle.meaning.specs.Terms.{numberOf, kindOf, count};
+ghost use Rattle.evaluator.specs.Runs.{Ready, termFrom, Leaves};
+
+// Number j of term k.
+pub fn number(table: &[u32], k: usize, j: usize) -> u32
+    requires { ⌜ (j < 4) × (k * 4 + 4 ≤ length (now table)) ⌝ }
+    ensures { λ r. ⌜ r ≡ numberOf (now (table .entry)) k j ⌝ }
+{
+    table[k * 4 + j]
+}
+
+fn wide(x: u32) -> usize
+    ensures { λ r. ⌜ r ≡ x ⌝ }
+{
+    x as usize
+}
+
+// The same number, as the term that it names.
+pub fn operand(table: &[u32], k: usize, j: usize) -> usize
+    requires { ⌜ (j < 4) × (k * 4 + 4 ≤ length (now table)) ⌝ }
+    ensures { λ r. ⌜ r ≡ numberOf (now (table .entry)) k j ⌝ }
+{
+    wide(number(table, k, j))
+}
+
+// The run of term k, by its kind.
+pub fn term(
+    width: u32,
+    table: &[u32],
+    given: &[u32; 256],
+    k: usize,
+    words: &mut [u32; 16],
+    start: u32,
+    limit: u32,
+) -> End
+    requires { ⌜ Ready width (now table) (now given) × (k < count (now table)) × (start ≤ limit) ⌝ }
+    ensures { λ r. ⌜ Leaves (termFrom width (now (table .entry)) k start limit (now (words .entry))) r (now (words .exit)) ⌝ }
+{
+    let kind = number(table, k, 0);
+    match kind {
+        1 => seq(width, table, given, k, words, start, limit),
+        2 => par(width, table, given, k, words, start, limit),
+        3 => ite(width, table, given, k, words, start, limit),
+        4 => rounds(width, table, given, k, words, start, limit),
+        _ => leaves::leaf(width, kind, number(table, k, 2), words, start, limit),
+    }
+}
+
+// Seq: f, and from its end on g, on f's words.
+fn seq(
+    width: u32,
+    table: &[u32],
+    given: &[u32; 256],
+    k: usize,
+    words: &mut [u32; 16],
+    start: u32,
+    limit: u32,
+) -> End
+    requires { ⌜ Ready width (now table) (now given) × (k < count (now table)) × (start ≤ limit) × (kindOf (now table) k ≡ 1) ⌝ }
+    ensures { λ r. ⌜ Leaves (termFrom width (now (table .entry)) k start limit (now (words .entry))) r (now (words .exit)) ⌝ }
+{
+    let f = operand(table, k, 1);
+    let g = operand(table, k, 2);
+    let first = term(width, table, given, f, words, start, limit);
+    let End::Ended(at) = first else {
+        return End::Unfinished;
+    };
+    term(width, table, given, g, words, at, limit)
+}
+
+// Par: f and g from the same start on the same words; the later end, and the words of f, then of g.
+fn par(
+    width: u32,
+    table: &[u32],
+    given: &[u32; 256],
+    k: usize,
+    words: &mut [u32; 16],
+    start: u32,
+    limit: u32,
+) -> End
+    requires { ⌜ Ready width (now table) (now given) × (k < count (now table)) × (start ≤ limit) × (kindOf (now table) k ≡ 2) ⌝ }
+    ensures { λ r. ⌜ Leaves (termFrom width (now (table .entry)) k start limit (now (words .entry))) r (now (words .exit)) ⌝ }
+{
+    let f = operand(table, k, 1);
+    let g = operand(table, k, 2);
+    let mut others = *words;
+    let first = term(width, table, given, f, words, start, limit);
+    let End::Ended(c) = first else {
+        return End::Unfinished;
+    };
+    let second = term(width, table, given, g, &mut others, start, limit);
+    let End::Ended(d) = second else {
+        return End::Unfinished;
+    };
+    leaves::join(words, wide(given[f]), &others);
+    End::Ended(leaves::later(c, d))
+}
+
+// Ite: e on a copy of the words, and from its end on the branch that e's word takes.
+fn ite(
+    width: u32,
+    table: &[u32],
+    given: &[u32; 256],
+    k: usize,
+    words: &mut [u32; 16],
+    start: u32,
+    limit: u32,
+) -> End
+    requires { ⌜ Ready width (now table) (now given) × (k < count (now table)) × (start ≤ limit) × (kindOf (now table) k ≡ 3) ⌝ }
+    ensures { λ r. ⌜ Leaves (termFrom width (now (table .entry)) k start limit (now (words .entry))) r (now (words .exit)) ⌝ }
+{
+    let e = operand(table, k, 1);
+    let f = operand(table, k, 2);
+    let g = operand(table, k, 3);
+    let mut test = *words;
+    let tested = term(width, table, given, e, &mut test, start, limit);
+    let End::Ended(at) = tested else {
+        return End::Unfinished;
+    };
+    if test[0] != 0 {
+        return term(width, table, given, f, words, at, limit);
+    }
+    term(width, table, given, g, words, at, limit)
+}
+
+// Rec: rounds of e, each on a copy of the words, until its word is not zero, and then f; else g, and one cycle to feed its words back.
+fn rounds(
+    width: u32,
+    table: &[u32],
+    given: &[u32; 256],
+    k: usize,
+    words: &mut [u32; 16],
+    start: u32,
+    limit: u32,
+) -> End
+    requires { ⌜ Ready width (now table) (now given) × (k < count (now table)) × (start ≤ limit) × (kindOf (now table) k ≡ 4) ⌝ }
+    ensures { λ r. ⌜ Leaves (termFrom width (now (table .entry)) k start limit (now (words .entry))) r (now (words .exit)) ⌝ }
+{
+    let e = operand(table, k, 1);
+    let f = operand(table, k, 2);
+    let g = operand(table, k, 3);
+    let mut at = start;
+    loop {
+        let mut test = *words;
+        let tested = term(width, table, given, e, &mut test, at, limit);
+        let End::Ended(c) = tested else {
+            return End::Unfinished;
+        };
+        if test[0] != 0 {
+            return term(width, table, given, f, words, c, limit);
+        }
+        let next = term(width, table, given, g, words, c, limit);
+        let End::Ended(d) = next else {
+            return End::Unfinished;
+        };
+        if d == limit {
+            return End::Unfinished;
+        }
+        at = d + 1;
+    }
+}
