@@ -1,2 +1,3 @@
 -- What the parts of the evaluator are asked, and what they leave. Definitions only.
 pub mod Runs
+pub mod Answered
