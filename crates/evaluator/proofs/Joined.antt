@@ -5,8 +5,8 @@ use mathlib.Core.Path.{_≡_, refl, sym, ap, _∙_}
 use mathlib.Core.List.{List, [], _∷_, _++_, append-assoc}
 use native.Mathlib.Numerals.{add-one}
 use native.Mathlib.Omega.{arith}
-use lib.ListN.{length, getD, take, set, replicate, length-append, length-replicate, replicate-append-replicate}
-use lib.Seq.{take-suc, take-suc-set, take-all, take-at, take-append-add, take-length, length-take-le, getD-append-add, getD-take}
+use lib.ListN.{length, getD, take, set, replicate, length-append}
+use lib.Seq.{take-suc, take-suc-set, take-all, take-at, take-append-add, length-take-le, getD-append-add, getD-take}
 use Rattle.meaning.specs.Choices.{padded}
 use Rattle.evaluator.specs.Runs.{sideBySide}
 

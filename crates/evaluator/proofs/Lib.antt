@@ -4,3 +4,4 @@ pub mod Filled
 pub mod Turns
 pub mod Parts
 pub mod Answered
+pub mod Unique

@@ -6,7 +6,7 @@ use native.Mathlib.Omega.{arith}
 use lib.ListN.{length}
 use Rattle.meaning.specs.Choices.{at}
 use Rattle.meaning.specs.Words.{Words}
-use Rattle.meaning.specs.Terms.{numberOf, kindOf, count, leaf, seq, par, ite, rec, tree}
+use Rattle.meaning.specs.Terms.{numberOf, kindOf, count, seq, par, ite, rec, tree}
 use Rattle.meaning.specs.Counts.{outs}
 use Rattle.meaning.specs.Cycles.{leafWord, leafRun, evaluate}
 use Rattle.meaning.proofs.Lists.{padded-length, column-at}

@@ -5,7 +5,7 @@ use mathlib.Core.Path.{_≡_, refl, sym, ap, _∙_}
 use mathlib.Core.Bool.{true, false}
 use mathlib.Core.List.{[], _∷_, _++_}
 use native.Mathlib.Omega.{arith}
-use lib.ListN.{length, replicate}
+use lib.ListN.{length}
 use Rattle.meaning.specs.declared.End.{End}
 use Rattle.meaning.specs.declared.End.the-variants.{Unfinished, Ended}
 use Rattle.meaning.specs.Choices.{bit, at, padded}
@@ -15,7 +15,8 @@ use Rattle.meaning.specs.Cycles.{Result, unfinished, ended, later, holds, leafR
 use Rattle.meaning.proofs.Lists.{padded-at}
 use Rattle.meaning.proofs.Exact.{ended-runs}
 use Rattle.meaning.proofs.Alike.{padded-evaluates}
-use Rattle.meaning.proofs.Steps.{later-later, seq-stops, seq-goes, par-stops-first, par-stops-second, par-ends, ite-stops, ite-then, ite-else}
+use Rattle.meaning.proofs.Steps.{later-later, seq-stops, seq-goes, par-stops-first, par-stops-second, par-ends, ite-stops, ite-then}
+use Rattle.meaning.proofs.Steps.{ite-else}
 use Rattle.meaning.proofs.Steps.{rec-stops, rec-last, rec-stops-body, rec-stops-fed, rec-goes}
 use Rattle.evaluator.specs.Runs.{runFrom, endOf, Leaves, sideBySide}
 use Rattle.evaluator.proofs.Joined.{beside-padded}

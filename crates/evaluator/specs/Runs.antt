@@ -1,6 +1,6 @@
 -- Runs: what the term evaluator is asked, and what it leaves. It counts cycles from the start of the whole run: a term starts
 -- at one cycle and has until another. Definitions only. Document 01: "Cycles". Assumes nothing.
-use Prim.Native.Nat.{ℕ, _-_}
+use Prim.Native.Nat.{ℕ, _-_, _≤_, _<_}
 use mathlib.Core.Path.{_≡_}
 use mathlib.Core.List.{List, _++_}
 use lib.ListN.{take}
@@ -9,7 +9,7 @@ use Rattle.meaning.specs.declared.End.{End}
 use Rattle.meaning.specs.declared.End.the-variants.{Unfinished, Ended}
 use Rattle.meaning.specs.Choices.{padded}
 use Rattle.meaning.specs.Words.{Words}
-use Rattle.meaning.specs.Terms.{tree}
+use Rattle.meaning.specs.Terms.{count, tree}
 use Rattle.meaning.specs.Counts.{outs}
 use Rattle.meaning.specs.Checks.{verdictOf}
 use Rattle.meaning.specs.Cycles.{Result, unfinished, ended, Evaluator, later, evaluate}
@@ -19,6 +19,12 @@ use Rattle.meaning.specs.Answers.{column}
 pub record Ready (w : ℕ) (t given : List ℕ) : Type 0 where
   pub accepted : verdictOf w t ≡ Accepted
   pub counted : given ≡ column outs t
+
+-- Term k of such a table may start at a cycle that is not past its limit.
+pub record Startable (w : ℕ) (t given : List ℕ) (k start limit : ℕ) : Type 0 where
+  pub ready : Ready w t given
+  pub there : k < count t
+  pub within : start ≤ limit
 
 -- A run that starts at one cycle and has until another; term k's.
 abbrev pub runFrom : Evaluator → ℕ → ℕ → Words → Result

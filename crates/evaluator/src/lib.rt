@@ -5,19 +5,20 @@
 //     inputs    check 11, and the words in an array of 16
 //     runs      the term evaluator, a combinator at a time, and the round evaluator of Rec
 //     leaves    terms of kind 9 and above, and the words and cycles of the two sides of Par
-pub mod inputs;
-pub mod leaves;
-pub mod runs;
+mod inputs;
+mod leaves;
+mod runs;
 
 use meaning::End;
 use meaning::Evaluated;
 use meaning::Outcome;
+use meaning::Verdict;
 ghost use mathlib.Core.Path.{_≡_};
 ghost use Prim.Native.Nat.{_≤_};
 ghost use lib.ListN.{length};
 ghost use Rattle.meaning.specs.Terms.{mainOf};
 ghost use Rattle.meaning.specs.Counts.{ins};
-ghost use Rattle.meaning.specs.Answers.{«without»};
+ghost use Rattle.meaning.specs.Answers.{«without», evaluatedOf};
 ghost use Rattle.evaluator.specs.Runs.{Ready};
 ghost use Rattle.evaluator.specs.Answered.{ranOn, acceptedOn};
 
@@ -64,4 +65,18 @@ fn accepted(
         return wordless(Outcome::Refused(11, 0));
     }
     ran(width, table, given, input, budget)
+}
+
+// What the main term of a table gives on the words, and in how many cycles, if that is within the budget.
+pub fn evaluate(width: u32, table: &[u32], input: &[u32], budget: u32) -> Evaluated
+    ensures { λ r. ⌜ r ≡ evaluatedOf width (now (table .entry)) (now (input .entry)) budget ⌝ }
+{
+    let facts = terms::check(width, table);
+    let verdict = facts.verdict;
+    let Verdict::Refused(number, place) = verdict else {
+        let main = table.len() / 4 - 1;
+        let given = facts.outs;
+        return accepted(width, table, facts.ins[main], &given, input, budget);
+    };
+    wordless(Outcome::Refused(number, place))
 }

@@ -4,32 +4,8 @@
 use crate::leaves;
 use meaning::End;
 ghost use mathlib.Core.Path.{_≡_};
-ghost use Prim.Native.Nat.{_+_, _*_, _<_, _≤_};
-ghost use lib.ListN.{length};
-ghost use Rattle.meaning.specs.Terms.{numberOf, kindOf, count};
-ghost use Rattle.evaluator.specs.Runs.{Ready, termFrom, Leaves};
-
-// Number j of term k.
-pub fn number(table: &[u32], k: usize, j: usize) -> u32
-    requires { ⌜ (j < 4) × (k * 4 + 4 ≤ length (now table)) ⌝ }
-    ensures { λ r. ⌜ r ≡ numberOf (now (table .entry)) k j ⌝ }
-{
-    table[k * 4 + j]
-}
-
-fn wide(x: u32) -> usize
-    ensures { λ r. ⌜ r ≡ x ⌝ }
-{
-    x as usize
-}
-
-// The same number, as the term that it names.
-pub fn operand(table: &[u32], k: usize, j: usize) -> usize
-    requires { ⌜ (j < 4) × (k * 4 + 4 ≤ length (now table)) ⌝ }
-    ensures { λ r. ⌜ r ≡ numberOf (now (table .entry)) k j ⌝ }
-{
-    wide(number(table, k, j))
-}
+ghost use Rattle.meaning.specs.Terms.{kindOf};
+ghost use Rattle.evaluator.specs.Runs.{Startable, termFrom, Leaves};
 
 // The run of term k, by its kind.
 pub fn term(
@@ -41,16 +17,16 @@ pub fn term(
     start: u32,
     limit: u32,
 ) -> End
-    requires { ⌜ Ready width (now table) (now given) × (k < count (now table)) × (start ≤ limit) ⌝ }
+    requires { ⌜ Startable width (now table) (now given) k start limit ⌝ }
     ensures { λ r. ⌜ Leaves (termFrom width (now (table .entry)) k start limit (now (words .entry))) r (now (words .exit)) ⌝ }
 {
-    let kind = number(table, k, 0);
+    let kind = terms::number(table, k, 0);
     match kind {
         1 => seq(width, table, given, k, words, start, limit),
         2 => par(width, table, given, k, words, start, limit),
         3 => ite(width, table, given, k, words, start, limit),
         4 => rounds(width, table, given, k, words, start, limit),
-        _ => leaves::leaf(width, kind, number(table, k, 2), words, start, limit),
+        _ => leaves::leaf(width, kind, terms::number(table, k, 2), words, start, limit),
     }
 }
 
@@ -64,11 +40,11 @@ fn seq(
     start: u32,
     limit: u32,
 ) -> End
-    requires { ⌜ Ready width (now table) (now given) × (k < count (now table)) × (start ≤ limit) × (kindOf (now table) k ≡ 1) ⌝ }
+    requires { ⌜ Startable width (now table) (now given) k start limit × (kindOf (now table) k ≡ 1) ⌝ }
     ensures { λ r. ⌜ Leaves (termFrom width (now (table .entry)) k start limit (now (words .entry))) r (now (words .exit)) ⌝ }
 {
-    let f = operand(table, k, 1);
-    let g = operand(table, k, 2);
+    let f = terms::operand(table, k, 1);
+    let g = terms::operand(table, k, 2);
     let first = term(width, table, given, f, words, start, limit);
     let End::Ended(at) = first else {
         return End::Unfinished;
@@ -86,11 +62,11 @@ fn par(
     start: u32,
     limit: u32,
 ) -> End
-    requires { ⌜ Ready width (now table) (now given) × (k < count (now table)) × (start ≤ limit) × (kindOf (now table) k ≡ 2) ⌝ }
+    requires { ⌜ Startable width (now table) (now given) k start limit × (kindOf (now table) k ≡ 2) ⌝ }
     ensures { λ r. ⌜ Leaves (termFrom width (now (table .entry)) k start limit (now (words .entry))) r (now (words .exit)) ⌝ }
 {
-    let f = operand(table, k, 1);
-    let g = operand(table, k, 2);
+    let f = terms::operand(table, k, 1);
+    let g = terms::operand(table, k, 2);
     let mut others = *words;
     let first = term(width, table, given, f, words, start, limit);
     let End::Ended(c) = first else {
@@ -100,7 +76,8 @@ fn par(
     let End::Ended(d) = second else {
         return End::Unfinished;
     };
-    leaves::join(words, wide(given[f]), &others);
+    let n = given[f] as usize;
+    leaves::join(words, n, &others);
     End::Ended(leaves::later(c, d))
 }
 
@@ -114,12 +91,12 @@ fn ite(
     start: u32,
     limit: u32,
 ) -> End
-    requires { ⌜ Ready width (now table) (now given) × (k < count (now table)) × (start ≤ limit) × (kindOf (now table) k ≡ 3) ⌝ }
+    requires { ⌜ Startable width (now table) (now given) k start limit × (kindOf (now table) k ≡ 3) ⌝ }
     ensures { λ r. ⌜ Leaves (termFrom width (now (table .entry)) k start limit (now (words .entry))) r (now (words .exit)) ⌝ }
 {
-    let e = operand(table, k, 1);
-    let f = operand(table, k, 2);
-    let g = operand(table, k, 3);
+    let e = terms::operand(table, k, 1);
+    let f = terms::operand(table, k, 2);
+    let g = terms::operand(table, k, 3);
     let mut test = *words;
     let tested = term(width, table, given, e, &mut test, start, limit);
     let End::Ended(at) = tested else {
@@ -141,12 +118,12 @@ fn rounds(
     start: u32,
     limit: u32,
 ) -> End
-    requires { ⌜ Ready width (now table) (now given) × (k < count (now table)) × (start ≤ limit) × (kindOf (now table) k ≡ 4) ⌝ }
+    requires { ⌜ Startable width (now table) (now given) k start limit × (kindOf (now table) k ≡ 4) ⌝ }
     ensures { λ r. ⌜ Leaves (termFrom width (now (table .entry)) k start limit (now (words .entry))) r (now (words .exit)) ⌝ }
 {
-    let e = operand(table, k, 1);
-    let f = operand(table, k, 2);
-    let g = operand(table, k, 3);
+    let e = terms::operand(table, k, 1);
+    let f = terms::operand(table, k, 2);
+    let g = terms::operand(table, k, 3);
     let mut at = start;
     loop {
         let mut test = *words;

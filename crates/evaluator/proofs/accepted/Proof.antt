@@ -1,18 +1,11 @@
 -- Proof: `accepted` meets its contract: check 11 decides between refusal 11 and the run. Assumes nothing.
-use mathlib.Core.Path.{_≡_, sym, ap, _∙_}
-use mathlib.Core.Bool.{true, false}
+use mathlib.Core.Path.{sym, _∙_}
 use borrow.Author.Tests.{not-true, not-false}
-use Rattle.meaning.specs.Answers.{wordsFit}
 use Rattle.evaluator.proofs.Parts.{wide}
 use Rattle.evaluator.proofs.Answered.{fit-few}
 use borrow.Author.Needs.{needs}
 use Rattle.evaluator.proofs.accepted.Statement.{statement}
 use Rattle.evaluator.proofs.accepted.Tie as tie
-use Rattle.evaluator.proofs.accepted.Reads as reads
-use Rattle.evaluator.proofs.accepted.Lts as lts
-use Rattle.evaluator.proofs.inputs.fit.Reads as fit-reads
-use Rattle.evaluator.proofs.ran.Reads as ran-reads
-use Rattle.evaluator.proofs.wordless.Reads as wordless-reads
 
 fit-requires : tie.Need-fit-requires
 fit-requires c κs = wide (c .before .before .pre .0)

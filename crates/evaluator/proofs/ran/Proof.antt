@@ -6,11 +6,6 @@ use Rattle.evaluator.proofs.Answered.{last-there, last-in-array, ran-un
 use borrow.Author.Needs.{needs}
 use Rattle.evaluator.proofs.ran.Statement.{statement}
 use Rattle.evaluator.proofs.ran.Tie as tie
-use Rattle.evaluator.proofs.ran.Reads as reads
-use Rattle.evaluator.proofs.ran.Lts as lts
-use Rattle.evaluator.proofs.inputs.padded.Reads as padded-reads
-use Rattle.evaluator.proofs.runs.term.Reads as term-reads
-use Rattle.evaluator.proofs.wordless.Reads as wordless-reads
 
 sub-main : tie.Need-sub-main
 sub-main c =
@@ -23,7 +18,7 @@ padded-requires c κs = search needs
 term-requires : tie.Need-term-requires
 term-requires c κs =
     let s = c .before .before .before .before in
-    (s .pre .0, last-there (s .pre .0), omega arith)
+    record { ready = s .pre .0; there = last-there (s .pre .0); within = omega arith }
 
 enum-known-end : tie.Need-enum-known-end
 enum-known-end c = search needs

@@ -1,7 +1,7 @@
 -- Proof: `inputs::fit` meets its contract. Invariant: the first i words are below 2 ^ width. Measure: the words left. Assumes nothing.
-use mathlib.Core.Path.{_≡_, refl, sym, ap, _∙_}
+use mathlib.Core.Path.{_≡_, sym, _∙_}
 use mathlib.Core.Logic.{inl, inr}
-use Prim.Native.Nat.{ℕ, _+_, _-_, _^_, _≤_, _<_}
+use Prim.Native.Nat.{ℕ, _-_, _^_, _≤_, _<_}
 use native.Mathlib.Omega.{arith}
 use lib.ListN.{length}
 use borrow.Author.Tests.{eq-eqb, ne-eqb, ltb-true, ltb-false, not-true, not-false}
@@ -12,9 +12,6 @@ use Rattle.meaning.proofs.Lists.{at-all-below}
 use Rattle.evaluator.proofs.Filled.{not-all-below}
 use Rattle.evaluator.proofs.inputs.fit.Statement.{statement}
 use Rattle.evaluator.proofs.inputs.fit.Tie as tie
-use Rattle.evaluator.proofs.inputs.fit.Reads as reads
-use Rattle.evaluator.proofs.inputs.fit.Lts as lts
-use Rattle.words.proofs.fits.Reads as fits-reads
 
 abbrev Inv-loop : tie.InvT-loop
 Inv-loop width taken input i₀ i = (i ≤ length input) × ((j : ℕ) → j < i → at input j < 2 ^ width)

@@ -5,13 +5,10 @@ use mathlib.Core.List.{List}
 use Prim.Native.Nat.{ℕ, _-_, _≤_}
 use native.Mathlib.Omega.{arith}
 use lib.ListN.{length, take, set}
-use borrow.Author.Needs.{needs}
 use Rattle.meaning.specs.Choices.{at, padded}
 use Rattle.evaluator.proofs.Filled.{pad-more, pad-whole}
 use Rattle.evaluator.proofs.inputs.padded.Statement.{statement}
 use Rattle.evaluator.proofs.inputs.padded.Tie as tie
-use Rattle.evaluator.proofs.inputs.padded.Reads as reads
-use Rattle.evaluator.proofs.inputs.padded.Lts as lts
 
 abbrev Inv-loop : tie.InvT-loop
 Inv-loop input words₀ i₀ words i = (i ≤ length input) × (words ≡ padded 16 (take i input))

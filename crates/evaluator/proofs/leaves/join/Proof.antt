@@ -1,16 +1,13 @@
 -- Proof: `leaves::join` meets its contract. Invariant: the first i words are those of the answer. Measure: what is left to 16.
 -- Mathematics in `proofs.Joined`. Assumes nothing.
 use mathlib.Core.Path.{_≡_}
-use Prim.Native.Nat.{ℕ, _-_, _≤_}
+use Prim.Native.Nat.{_-_, _≤_}
 use native.Mathlib.Omega.{arith}
 use lib.ListN.{length, take, length-set}
-use borrow.Author.Needs.{needs}
 use Rattle.evaluator.specs.Runs.{sideBySide}
 use Rattle.evaluator.proofs.Joined.{fill-start, fill-more, fill-whole}
 use Rattle.evaluator.proofs.leaves.join.Statement.{statement}
 use Rattle.evaluator.proofs.leaves.join.Tie as tie
-use Rattle.evaluator.proofs.leaves.join.Reads as reads
-use Rattle.evaluator.proofs.leaves.join.Lts as lts
 
 abbrev Inv-loop : tie.InvT-loop
 Inv-loop words₀ n others i₀ words i =

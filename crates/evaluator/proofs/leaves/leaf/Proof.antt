@@ -9,9 +9,6 @@ use Rattle.evaluator.proofs.Turns.{leaf-stopped, leaf-ended}
 use borrow.Author.Needs.{needs}
 use Rattle.evaluator.proofs.leaves.leaf.Statement.{statement}
 use Rattle.evaluator.proofs.leaves.leaf.Tie as tie
-use Rattle.evaluator.proofs.leaves.leaf.Reads as reads
-use Rattle.evaluator.proofs.leaves.leaf.Lts as lts
-use Rattle.evaluator.proofs.leaves.word.Reads as word-reads
 
 returns : tie.Need-returns
 returns c =

@@ -2,7 +2,7 @@
 -- Measure: twice the term's number, one more for `term`, which hands its own number on. Loop of `rounds`: the run from the start
 -- is the run from here (`Going`); what is left of the budget falls. Mathematics in `proofs.Turns` and `proofs.Parts`. Assumes nothing.
 use Prim.Native.Nat.{ℕ, _+_, _-_, _<_}
-use mathlib.Core.Path.{_≡_, refl, sym, ap, _∙_}
+use mathlib.Core.Path.{refl, sym, ap, _∙_}
 use native.Mathlib.Omega.{arith}
 use borrow.Author.Needs.{needs}
 use Rattle.meaning.specs.declared.End.the-variants.{Ended}
@@ -32,9 +32,8 @@ use Rattle.evaluator.proofs.runs.+ite+par+rounds+seq+term.Lts-term as t
 use Rattle.evaluator.proofs.leaves.join.Reads as join-reads
 use Rattle.evaluator.proofs.leaves.later.Reads as later-reads
 use Rattle.evaluator.proofs.leaves.leaf.Reads as leaf-reads
-use Rattle.evaluator.proofs.runs.number.Reads as number-reads
-use Rattle.evaluator.proofs.runs.operand.Reads as operand-reads
-use Rattle.evaluator.proofs.runs.wide.Reads as wide-reads
+use Rattle.terms.proofs.number.Reads as number-reads
+use Rattle.terms.proofs.operand.Reads as operand-reads
 use Rattle.evaluator.proofs.runs.+ite+par+rounds+seq+term.{statement}
 use Rattle.evaluator.proofs.runs.+ite+par+rounds+seq+term.Tie.{close}
 
@@ -87,7 +86,7 @@ abbrev ite-calls : ℕ → ite-lts.Claims
 ite-calls t = (operand-reads.Asked, operand-reads.Learnt, term-below t, term.Post)
 
 abbrev par-calls : ℕ → par-lts.Claims
-par-calls t = (operand-reads.Asked, operand-reads.Learnt, term-below t, term.Post, wide-reads.Asked, wide-reads.Learnt, join-reads.Asked, join-reads.Learnt, later-reads.Asked, later-reads.Learnt)
+par-calls t = (operand-reads.Asked, operand-reads.Learnt, term-below t, term.Post, join-reads.Asked, join-reads.Learnt, later-reads.Asked, later-reads.Learnt)
 
 abbrev rounds-calls : ℕ → rounds-lts.Claims
 rounds-calls t = (operand-reads.Asked, operand-reads.Learnt, term-below t, term.Post)
@@ -104,7 +103,7 @@ ite-here : (t : ℕ) (c : ite-lts.After-operand3 (ite-calls t) (ite-at t) ite.Po
     IteParts (a .table .now) (a .k) (c .before .before .operand .result) (c .before .operand2 .result) (c .operand3 .result)
 ite-here t c =
     let s = c .before .before .before .before in
-    ite-parts (s .pre .1 .0) (s .args .k) (s .pre .1 .1) (s .pre .1 .3) _ _ _ (c .before .before .operand .ensures)
+    ite-parts (s .pre .1 .0 .ready) (s .args .k) (s .pre .1 .0 .there) (s .pre .1 .1) _ _ _ (c .before .before .operand .ensures)
     (c .before .operand2 .ensures) (c .operand3 .ensures)
 
 ite-gave : (t : ℕ) (c : ite-lts.After-known-told (ite-calls t) (ite-at t) ite.Post) →
@@ -116,29 +115,31 @@ ite-gave : (t : ℕ) (c : ite-lts.After-known-told (ite-calls t) (ite-at t) ite.
 ite-gave t c =
     let m = c .before .before .before in
     let s = m .before .before .before .before .before .before .before in
-    gave _ _ _ _ _ _ _ (m .term .ensures) _ (s .pre .1 .2) (c .before .tested .given .1)
+    gave _ _ _ _ _ _ _ (m .term .ensures) _ (s .pre .1 .0 .within) (c .before .tested .given .1)
 
 ite-operand-requires : (t : ℕ) → ite-lts.Need-operand-requires (ite-calls t) (ite-at t) ite.Post
 ite-operand-requires t c κs =
     let s = c .before in
-    (omega arith, long (s .pre .1 .0) (s .args .k) (s .pre .1 .1))
+    (omega arith, long (s .pre .1 .0 .ready) (s .args .k) (s .pre .1 .0 .there))
 
 ite-operand-requires-2 : (t : ℕ) → ite-lts.Need-operand-requires-2 (ite-calls t) (ite-at t) ite.Post
 ite-operand-requires-2 t c κs =
     let s = c .before .before in
-    (omega arith, long (s .pre .1 .0) (s .args .k) (s .pre .1 .1))
+    (omega arith, long (s .pre .1 .0 .ready) (s .args .k) (s .pre .1 .0 .there))
 
 ite-operand-requires-3 : (t : ℕ) → ite-lts.Need-operand-requires-3 (ite-calls t) (ite-at t) ite.Post
 ite-operand-requires-3 t c κs =
     let s = c .before .before .before in
-    (omega arith, long (s .pre .1 .0) (s .args .k) (s .pre .1 .1))
+    (omega arith, long (s .pre .1 .0 .ready) (s .args .k) (s .pre .1 .0 .there))
 
 ite-term-requires : (t : ℕ) → ite-lts.Need-term-requires (ite-calls t) (ite-at t) ite.Post
 ite-term-requires t c κs =
     let o = c .before .before in
     let s = o .before .before .before .before in
-    let q = ite-here t o in
-    (omega (arith, s .pre .0), (s .pre .1 .0, omega (arith, s .pre .1 .1), s .pre .1 .2))
+    let q = ite-here t o in (
+      omega (arith, s .pre .0),
+      record { ready = s .pre .1 .0 .ready; there = omega (arith, s .pre .1 .0 .there); within = s .pre .1 .0 .within },
+    )
 
 ite-enum-known-tested : (t : ℕ) → ite-lts.Need-enum-known-tested (ite-calls t) (ite-at t) ite.Post
 ite-enum-known-tested t c = search needs
@@ -159,8 +160,10 @@ ite-term-requires-2 t c κs =
     let h = c .before .before in
     let o = h .before .before .before .before .before .before in
     let s = o .before .before .before .before in
-    let q = ite-here t o in
-    (omega (arith, s .pre .0), (s .pre .1 .0, omega (arith, s .pre .1 .1), ite-gave t h .within))
+    let q = ite-here t o in (
+      omega (arith, s .pre .0),
+      record { ready = s .pre .1 .0 .ready; there = omega (arith, s .pre .1 .0 .there); within = ite-gave t h .within },
+    )
 
 ite-returns-2 : (t : ℕ) → ite-lts.Need-returns-2 (ite-calls t) (ite-at t) ite.Post
 ite-returns-2 t c =
@@ -174,8 +177,10 @@ ite-term-requires-3 t c κs =
     let h = c .before .before in
     let o = h .before .before .before .before .before .before in
     let s = o .before .before .before .before in
-    let q = ite-here t o in
-    (omega (arith, s .pre .0), (s .pre .1 .0, omega (arith, s .pre .1 .1), ite-gave t h .within))
+    let q = ite-here t o in (
+      omega (arith, s .pre .0),
+      record { ready = s .pre .1 .0 .ready; there = omega (arith, s .pre .1 .0 .there); within = ite-gave t h .within },
+    )
 
 ite-returns-3 : (t : ℕ) → ite-lts.Need-returns-3 (ite-calls t) (ite-at t) ite.Post
 ite-returns-3 t c =
@@ -190,7 +195,23 @@ par-here : (t : ℕ) (c : par-lts.After-operand2 (par-calls t) (par-at t) par.Po
     (c .operand2 .result)
 par-here t c =
     let s = c .before .before .before in
-    par-parts (s .pre .1 .0) (s .args .k) (s .pre .1 .1) (s .pre .1 .3) _ _ (c .before .operand .ensures) (c .operand2 .ensures)
+    par-parts (s .pre .1 .0 .ready) (s .args .k) (s .pre .1 .0 .there) (s .pre .1 .1) _ _ (c .before .operand .ensures) (c .operand2 .ensures)
+
+par-there : (t : ℕ) (c : par-lts.After-operand2 (par-calls t) (par-at t) par.Post) →
+    let s = c .before .before .before in
+    (c .before .operand .result < count (s .args .table .now)) × (c .operand2 .result < count (s .args .table .now))
+par-there t c =
+    let s = c .before .before .before in
+    let q = par-here t c in
+    (omega (arith, s .pre .1 .0 .there), omega (arith, s .pre .1 .0 .there))
+
+par-in-array : (t : ℕ) (c : par-lts.After-operand2 (par-calls t) (par-at t) par.Post) → c .before .operand .result < 256
+par-in-array t c = in-array (c .before .before .before .pre .1 .0 .ready) _ (par-there t c .0)
+
+-- Where the operands had been read, from where both sides have ended.
+abbrev par-operands : (t : ℕ) → par-lts.After-known-told2 (par-calls t) (par-at t) par.Post →
+    par-lts.After-operand2 (par-calls t) (par-at t) par.Post
+par-operands t c = c .before .before .before .before .before .before .before .before .before .before .before
 
 par-gave : (t : ℕ) (c : par-lts.After-known-told (par-calls t) (par-at t) par.Post) →
     let m = c .before .before .before in
@@ -201,7 +222,7 @@ par-gave : (t : ℕ) (c : par-lts.After-known-told (par-calls t) (par-at t) par.
 par-gave t c =
     let m = c .before .before .before in
     let s = m .before .before .before .before .before .before in
-    gave _ _ _ _ _ _ _ (m .term .ensures) _ (s .pre .1 .2) (c .before .first .given .1)
+    gave _ _ _ _ _ _ _ (m .term .ensures) _ (s .pre .1 .0 .within) (c .before .first .given .1)
 
 par-gave-second : (t : ℕ) (c : par-lts.After-known-told2 (par-calls t) (par-at t) par.Post) →
     let m = c .before .before .before in
@@ -212,24 +233,26 @@ par-gave-second : (t : ℕ) (c : par-lts.After-known-told2 (par-calls t) (par-at
 par-gave-second t c =
     let m = c .before .before .before in
     let s = m .before .before .before .before .before .before .before .before .before .before .before in
-    gave _ _ _ _ _ _ _ (m .term2 .ensures) _ (s .pre .1 .2) (c .before .second .given .1)
+    gave _ _ _ _ _ _ _ (m .term2 .ensures) _ (s .pre .1 .0 .within) (c .before .second .given .1)
 
 par-operand-requires : (t : ℕ) → par-lts.Need-operand-requires (par-calls t) (par-at t) par.Post
 par-operand-requires t c κs =
     let s = c .before in
-    (omega arith, long (s .pre .1 .0) (s .args .k) (s .pre .1 .1))
+    (omega arith, long (s .pre .1 .0 .ready) (s .args .k) (s .pre .1 .0 .there))
 
 par-operand-requires-2 : (t : ℕ) → par-lts.Need-operand-requires-2 (par-calls t) (par-at t) par.Post
 par-operand-requires-2 t c κs =
     let s = c .before .before in
-    (omega arith, long (s .pre .1 .0) (s .args .k) (s .pre .1 .1))
+    (omega arith, long (s .pre .1 .0 .ready) (s .args .k) (s .pre .1 .0 .there))
 
 par-term-requires : (t : ℕ) → par-lts.Need-term-requires (par-calls t) (par-at t) par.Post
 par-term-requires t c κs =
     let o = c .before .before in
     let s = o .before .before .before in
-    let q = par-here t o in
-    (omega (arith, s .pre .0), (s .pre .1 .0, omega (arith, s .pre .1 .1), s .pre .1 .2))
+    let q = par-here t o in (
+      omega (arith, s .pre .0),
+      record { ready = s .pre .1 .0 .ready; there = omega (arith, s .pre .1 .0 .there); within = s .pre .1 .0 .within },
+    )
 
 par-enum-known-first : (t : ℕ) → par-lts.Need-enum-known-first (par-calls t) (par-at t) par.Post
 par-enum-known-first t c = search needs
@@ -246,8 +269,10 @@ par-term-requires-2 : (t : ℕ) → par-lts.Need-term-requires-2 (par-calls t) (
 par-term-requires-2 t c κs =
     let o = c .before .before .before .before .before .before .before in
     let s = o .before .before .before in
-    let q = par-here t o in
-    (omega (arith, s .pre .0), (s .pre .1 .0, omega (arith, s .pre .1 .1), s .pre .1 .2))
+    let q = par-here t o in (
+      omega (arith, s .pre .0),
+      record { ready = s .pre .1 .0 .ready; there = omega (arith, s .pre .1 .0 .there); within = s .pre .1 .0 .within },
+    )
 
 par-enum-known-second : (t : ℕ) → par-lts.Need-enum-known-second (par-calls t) (par-at t) par.Post
 par-enum-known-second t c = search needs
@@ -262,36 +287,26 @@ par-returns-2 t c =
     let o = h .before .before .before .before .before .before in
     par-unfinished-second _ _ _ _ (par-here t o .whole) _ _ _ _ _ (par-gave t h) _ _ _ (m .term2 .ensures) (c .enum-told2 .given .1)
 
-par-mul-wide : (t : ℕ) → par-lts.Need-mul-wide (par-calls t) (par-at t) par.Post
-par-mul-wide t c =
-    let o = c .before .before .before .before .before .before .before .before .before .before .before .before in
-    let s = o .before .before .before in
-    let q = par-here t o in
-    omega (arith, in-array (s .pre .1 .0) (s .args .k) (s .pre .1 .1))
+par-mul-n : (t : ℕ) → par-lts.Need-mul-n (par-calls t) (par-at t) par.Post
+par-mul-n t c = let o = par-operands t c in omega (arith, par-in-array t o)
 
-par-element-copy-out-wide : (t : ℕ) → par-lts.Need-element-copy-out-wide (par-calls t) (par-at t) par.Post
-par-element-copy-out-wide t c =
-    let o = c .before .before .before .before .before .before .before .before .before .before .before .before in
-    let s = o .before .before .before in
-    let q = par-here t o in
-    omega (arith, in-array (s .pre .1 .0) (s .args .k) (s .pre .1 .1))
+par-element-copy-out-n : (t : ℕ) → par-lts.Need-element-copy-out-n (par-calls t) (par-at t) par.Post
+par-element-copy-out-n t c = par-in-array t (par-operands t c)
 
-par-wide-requires : (t : ℕ) → par-lts.Need-wide-requires (par-calls t) (par-at t) par.Post
-par-wide-requires t c κs = search needs
+par-cast-n : (t : ℕ) → par-lts.Need-cast-n (par-calls t) (par-at t) par.Post
+par-cast-n t c =
+    let o = par-operands t (c .before) in
+    omega (arith, given-few (o .before .before .before .pre .1 .0 .ready) _ (par-there t o .0))
 
 par-join-requires : (t : ℕ) → par-lts.Need-join-requires (par-calls t) (par-at t) par.Post
 par-join-requires t c κs =
-    let h = c .before .before .before .before in
-    let j = h .before .before .before .before .before in
-    let o = j .before .before .before .before .before .before in
-    let s = o .before .before .before in
-    let q = par-here t o in
-    let r = s .pre .1 .0 in
-    let f : o .before .operand .result < count (s .args .table .now) = omega (arith, s .pre .1 .1) in
-    let g : o .operand2 .result < count (s .args .table .now) = omega (arith, s .pre .1 .1) in (
-      omega (arith, c .before .wide .ensures, given-few r _ f),
-      array-length r _ f _ _ _ _ _ (par-gave t j),
-      array-length r _ g _ _ _ _ _ (par-gave-second t h),
+    let h = c .before .before .before in
+    let o = par-operands t h in
+    let r = o .before .before .before .pre .1 .0 .ready in
+    let there = par-there t o in (
+      given-few r _ (there .0),
+      array-length r _ (there .0) _ _ _ _ _ (par-gave t (h .before .before .before .before .before)),
+      array-length r _ (there .1) _ _ _ _ _ (par-gave-second t h),
     )
 
 par-later-requires : (t : ℕ) → par-lts.Need-later-requires (par-calls t) (par-at t) par.Post
@@ -299,19 +314,17 @@ par-later-requires t c κs = search needs
 
 par-returns-3 : (t : ℕ) → par-lts.Need-returns-3 (par-calls t) (par-at t) par.Post
 par-returns-3 t c =
-    let h = c .before .before .before .before .before .before in
+    let h = c .before .before .before .before .before in
     let j = h .before .before .before .before .before in
-    let o = j .before .before .before .before .before .before in
-    let s = o .before .before .before in
+    let o = par-operands t h in
+    let r = o .before .before .before .pre .1 .0 .ready in
     let q = par-here t o in
-    let r = s .pre .1 .0 in
-    let f : o .before .operand .result < count (s .args .table .now) = omega (arith, s .pre .1 .1) in
-    let g : o .operand2 .result < count (s .args .table .now) = omega (arith, s .pre .1 .1) in
-    let u = gave-length r _ f _ _ _ _ _ (par-gave t j) in
-    let v = gave-length r _ g _ _ _ _ _ (par-gave-second t h) in
-    let n = c .before .before .before .wide .ensures in
-    par-done _ _ _ _ (q .whole) _ _ _ _ _ (par-gave t j) _ _ (par-gave-second t h) _ (u ∙ (sym (counted r _ f) ∙ sym n))
-    (omega (arith, u, v, n, counted r _ f, q .few)) _ _ (ap Ended (c .later .ensures)) (c .before .join .ensures)
+    let there = par-there t o in
+    let u = gave-length r _ (there .0) _ _ _ _ _ (par-gave t j) in
+    let v = gave-length r _ (there .1) _ _ _ _ _ (par-gave-second t h) in
+    let n = counted r _ (there .0) in
+    par-done _ _ _ _ (q .whole) _ _ _ _ _ (par-gave t j) _ _ (par-gave-second t h) _ (u ∙ sym n) (omega (arith, u, v, n, q .few)) _ _
+    (ap Ended (c .later .ensures)) (c .before .join .ensures)
 
 abbrev rounds-Inv-loop : rounds-lts.InvT-loop
 rounds-Inv-loop width table given k words₀ start limit e f g at₀ words at = Going width (tree table k) start limit words₀ at words
@@ -325,7 +338,7 @@ rounds-here : (t : ℕ) (c : rounds-lts.After-operand3 (rounds-calls t) (rounds-
     RecParts (a .table .now) (a .k) (c .before .before .operand .result) (c .before .operand2 .result) (c .operand3 .result)
 rounds-here t c =
     let s = c .before .before .before .before in
-    rec-parts (s .pre .1 .0) (s .args .k) (s .pre .1 .1) (s .pre .1 .3) _ _ _ (c .before .before .operand .ensures)
+    rec-parts (s .pre .1 .0 .ready) (s .args .k) (s .pre .1 .0 .there) (s .pre .1 .1) _ _ _ (c .before .before .operand .ensures)
     (c .before .operand2 .ensures) (c .operand3 .ensures)
 
 rounds-gave : (t : ℕ) (c : rounds-lts.After-known-told (rounds-calls t) (rounds-at t) rounds.Post rounds-Inv-loop rounds-μ-loop) →
@@ -354,29 +367,31 @@ rounds-gave-body t c =
 rounds-operand-requires : (t : ℕ) → rounds-lts.Need-operand-requires (rounds-calls t) (rounds-at t) rounds.Post rounds-Inv-loop rounds-μ-loop
 rounds-operand-requires t c κs =
     let s = c .before in
-    (omega arith, long (s .pre .1 .0) (s .args .k) (s .pre .1 .1))
+    (omega arith, long (s .pre .1 .0 .ready) (s .args .k) (s .pre .1 .0 .there))
 
 rounds-operand-requires-2 : (t : ℕ) → rounds-lts.Need-operand-requires-2 (rounds-calls t) (rounds-at t) rounds.Post rounds-Inv-loop rounds-μ-loop
 rounds-operand-requires-2 t c κs =
     let s = c .before .before in
-    (omega arith, long (s .pre .1 .0) (s .args .k) (s .pre .1 .1))
+    (omega arith, long (s .pre .1 .0 .ready) (s .args .k) (s .pre .1 .0 .there))
 
 rounds-operand-requires-3 : (t : ℕ) → rounds-lts.Need-operand-requires-3 (rounds-calls t) (rounds-at t) rounds.Post rounds-Inv-loop rounds-μ-loop
 rounds-operand-requires-3 t c κs =
     let s = c .before .before .before in
-    (omega arith, long (s .pre .1 .0) (s .args .k) (s .pre .1 .1))
+    (omega arith, long (s .pre .1 .0 .ready) (s .args .k) (s .pre .1 .0 .there))
 
 rounds-loop-holds : (t : ℕ) → rounds-lts.Need-loop-holds (rounds-calls t) (rounds-at t) rounds.Post rounds-Inv-loop rounds-μ-loop
 rounds-loop-holds t c =
     let s = c .before .before .before .before in
-    record { within = s .pre .1 .2; same = refl }
+    record { within = s .pre .1 .0 .within; same = refl }
 
 rounds-term-requires : (t : ℕ) → rounds-lts.Need-term-requires (rounds-calls t) (rounds-at t) rounds.Post rounds-Inv-loop rounds-μ-loop
 rounds-term-requires t c κs =
     let l = c .before .before in
     let s = l .before .before .before .before .before in
-    let q = rounds-here t (l .before) in
-    (omega (arith, s .pre .0), (s .pre .1 .0, omega (arith, s .pre .1 .1), l .loop .inv .within))
+    let q = rounds-here t (l .before) in (
+      omega (arith, s .pre .0),
+      record { ready = s .pre .1 .0 .ready; there = omega (arith, s .pre .1 .0 .there); within = l .loop .inv .within },
+    )
 
 rounds-enum-known-tested : (t : ℕ) → rounds-lts.Need-enum-known-tested (rounds-calls t) (rounds-at t) rounds.Post rounds-Inv-loop rounds-μ-loop
 rounds-enum-known-tested t c = search needs
@@ -399,8 +414,10 @@ rounds-term-requires-2 t c κs =
     let h = c .before .before in
     let l = h .before .before .before .before .before .before in
     let s = l .before .before .before .before .before in
-    let q = rounds-here t (l .before) in
-    (omega (arith, s .pre .0), (s .pre .1 .0, omega (arith, s .pre .1 .1), rounds-gave t h .within))
+    let q = rounds-here t (l .before) in (
+      omega (arith, s .pre .0),
+      record { ready = s .pre .1 .0 .ready; there = omega (arith, s .pre .1 .0 .there); within = rounds-gave t h .within },
+    )
 
 rounds-returns-2 : (t : ℕ) → rounds-lts.Need-returns-2 (rounds-calls t) (rounds-at t) rounds.Post rounds-Inv-loop rounds-μ-loop
 rounds-returns-2 t c =
@@ -415,8 +432,10 @@ rounds-term-requires-3 t c κs =
     let h = c .before .before in
     let l = h .before .before .before .before .before .before in
     let s = l .before .before .before .before .before in
-    let q = rounds-here t (l .before) in
-    (omega (arith, s .pre .0), (s .pre .1 .0, omega (arith, s .pre .1 .1), rounds-gave t h .within))
+    let q = rounds-here t (l .before) in (
+      omega (arith, s .pre .0),
+      record { ready = s .pre .1 .0 .ready; there = omega (arith, s .pre .1 .0 .there); within = rounds-gave t h .within },
+    )
 
 rounds-enum-known-next : (t : ℕ) → rounds-lts.Need-enum-known-next (rounds-calls t) (rounds-at t) rounds.Post rounds-Inv-loop rounds-μ-loop
 rounds-enum-known-next t c = search needs
@@ -475,7 +494,7 @@ seq-here : (t : ℕ) (c : seq-lts.After-operand2 (seq-calls t) (seq-at t) seq.Po
     (c .operand2 .result)
 seq-here t c =
     let s = c .before .before .before in
-    seq-parts (s .pre .1 .0) (s .args .k) (s .pre .1 .1) (s .pre .1 .3) _ _ (c .before .operand .ensures) (c .operand2 .ensures)
+    seq-parts (s .pre .1 .0 .ready) (s .args .k) (s .pre .1 .0 .there) (s .pre .1 .1) _ _ (c .before .operand .ensures) (c .operand2 .ensures)
 
 seq-gave : (t : ℕ) (c : seq-lts.After-known-told (seq-calls t) (seq-at t) seq.Post) →
     let m = c .before .before .before in
@@ -486,24 +505,26 @@ seq-gave : (t : ℕ) (c : seq-lts.After-known-told (seq-calls t) (seq-at t) seq.
 seq-gave t c =
     let m = c .before .before .before in
     let s = m .before .before .before .before .before in
-    gave _ _ _ _ _ _ _ (m .term .ensures) _ (s .pre .1 .2) (c .before .first .given .1)
+    gave _ _ _ _ _ _ _ (m .term .ensures) _ (s .pre .1 .0 .within) (c .before .first .given .1)
 
 seq-operand-requires : (t : ℕ) → seq-lts.Need-operand-requires (seq-calls t) (seq-at t) seq.Post
 seq-operand-requires t c κs =
     let s = c .before in
-    (omega arith, long (s .pre .1 .0) (s .args .k) (s .pre .1 .1))
+    (omega arith, long (s .pre .1 .0 .ready) (s .args .k) (s .pre .1 .0 .there))
 
 seq-operand-requires-2 : (t : ℕ) → seq-lts.Need-operand-requires-2 (seq-calls t) (seq-at t) seq.Post
 seq-operand-requires-2 t c κs =
     let s = c .before .before in
-    (omega arith, long (s .pre .1 .0) (s .args .k) (s .pre .1 .1))
+    (omega arith, long (s .pre .1 .0 .ready) (s .args .k) (s .pre .1 .0 .there))
 
 seq-term-requires : (t : ℕ) → seq-lts.Need-term-requires (seq-calls t) (seq-at t) seq.Post
 seq-term-requires t c κs =
     let o = c .before in
     let s = o .before .before .before in
-    let q = seq-here t o in
-    (omega (arith, s .pre .0), (s .pre .1 .0, omega (arith, s .pre .1 .1), s .pre .1 .2))
+    let q = seq-here t o in (
+      omega (arith, s .pre .0),
+      record { ready = s .pre .1 .0 .ready; there = omega (arith, s .pre .1 .0 .there); within = s .pre .1 .0 .within },
+    )
 
 seq-enum-known-first : (t : ℕ) → seq-lts.Need-enum-known-first (seq-calls t) (seq-at t) seq.Post
 seq-enum-known-first t c = search needs
@@ -520,8 +541,10 @@ seq-term-requires-2 : (t : ℕ) → seq-lts.Need-term-requires-2 (seq-calls t) (
 seq-term-requires-2 t c κs =
     let o = c .before .before .before .before .before .before in
     let s = o .before .before .before in
-    let q = seq-here t o in
-    (omega (arith, s .pre .0), (s .pre .1 .0, omega (arith, s .pre .1 .1), seq-gave t (c .before) .within))
+    let q = seq-here t o in (
+      omega (arith, s .pre .0),
+      record { ready = s .pre .1 .0 .ready; there = omega (arith, s .pre .1 .0 .there); within = seq-gave t (c .before) .within },
+    )
 
 seq-returns-2 : (t : ℕ) → seq-lts.Need-returns-2 (seq-calls t) (seq-at t) seq.Post
 seq-returns-2 t c =
@@ -532,46 +555,46 @@ seq-returns-2 t c =
 term-number-requires : (t : ℕ) → term-lts.Need-number-requires (term-calls t) (term-at t) term.Post
 term-number-requires t c κs =
     let s = c .before in
-    (omega arith, long (s .pre .1 .0) (s .args .k) (s .pre .1 .1))
+    (omega arith, long (s .pre .1 .ready) (s .args .k) (s .pre .1 .there))
 
 term-seq-requires : (t : ℕ) → term-lts.Need-seq-requires (term-calls t) (term-at t) term.Post
 term-seq-requires t c κs =
     let s = c .before .before .before .before in
     let p = s .pre .1 in
-    (omega (arith, s .pre .0), (p .0, p .1, p .2, sym (c .before .before .number .ensures) ∙ c .before .match .keys1))
+    (omega (arith, s .pre .0), (p, sym (c .before .before .number .ensures) ∙ c .before .match .keys1))
 
 term-par-requires : (t : ℕ) → term-lts.Need-par-requires (term-calls t) (term-at t) term.Post
 term-par-requires t c κs =
     let s = c .before .before .before .before in
     let p = s .pre .1 in
-    (omega (arith, s .pre .0), (p .0, p .1, p .2, sym (c .before .before .number .ensures) ∙ c .before .match .keys2))
+    (omega (arith, s .pre .0), (p, sym (c .before .before .number .ensures) ∙ c .before .match .keys2))
 
 term-ite-requires : (t : ℕ) → term-lts.Need-ite-requires (term-calls t) (term-at t) term.Post
 term-ite-requires t c κs =
     let s = c .before .before .before .before in
     let p = s .pre .1 in
-    (omega (arith, s .pre .0), (p .0, p .1, p .2, sym (c .before .before .number .ensures) ∙ c .before .match .keys3))
+    (omega (arith, s .pre .0), (p, sym (c .before .before .number .ensures) ∙ c .before .match .keys3))
 
 term-rounds-requires : (t : ℕ) → term-lts.Need-rounds-requires (term-calls t) (term-at t) term.Post
 term-rounds-requires t c κs =
     let s = c .before .before .before .before in
     let p = s .pre .1 in
-    (omega (arith, s .pre .0), (p .0, p .1, p .2, sym (c .before .before .number .ensures) ∙ c .before .match .keys4))
+    (omega (arith, s .pre .0), (p, sym (c .before .before .number .ensures) ∙ c .before .match .keys4))
 
 term-number-requires-2 : (t : ℕ) → term-lts.Need-number-requires-2 (term-calls t) (term-at t) term.Post
 term-number-requires-2 t c κs =
     let s = c .before .before .before in
-    (omega arith, long (s .pre .1 .0) (s .args .k) (s .pre .1 .1))
+    (omega arith, long (s .pre .1 .ready) (s .args .k) (s .pre .1 .there))
 
 term-leaf-requires : (t : ℕ) → term-lts.Need-leaf-requires (term-calls t) (term-at t) term.Post
 term-leaf-requires t c κs =
     let s = c .before .before .before .before .before in
     let p = s .pre .1 in
     let m = c .before .before .match .rest in (
-      wide (p .0),
-      leaf-small (p .0) _ (p .1) _ _ (c .before .before .before .number .ensures) (c .before .number2 .ensures) (m .0 .0 .0 .1) (m .0 .0 .1)
+      wide (p .ready),
+      leaf-small (p .ready) _ (p .there) _ _ (c .before .before .before .number .ensures) (c .before .number2 .ensures) (m .0 .0 .0 .1) (m .0 .0 .1)
           (m .0 .1) (m .1),
-      p .2,
+      p .within,
     )
 
 term-returns : (t : ℕ) → term-lts.Need-returns (term-calls t) (term-at t) term.Post
@@ -592,7 +615,7 @@ term-returns-5 t c =
     let p = s .pre .1 in
     let m = c .before .before .before .match .rest in
     leaves-as
-    (leaf-from (p .0) _ (p .1) _ _ (c .before .before .before .before .number .ensures) (c .before .before .number2 .ensures) (m .0 .0 .0 .1)
+    (leaf-from (p .ready) _ (p .there) _ _ (c .before .before .before .before .number .ensures) (c .before .before .number2 .ensures) (m .0 .0 .0 .1)
     (m .0 .0 .1) (m .0 .1) (m .1) _ _ _)
     (c .leaf .ensures)
 
@@ -625,9 +648,9 @@ pub +ite+par+rounds+seq+term-spec : {M : Type 1} → statement M
     (par-enum-known-second t)
     (par-enum-told-2 t)
     (par-returns-2 t)
-    (par-mul-wide t)
-    (par-element-copy-out-wide t)
-    (par-wide-requires t)
+    (par-mul-n t)
+    (par-element-copy-out-n t)
+    (par-cast-n t)
     (par-join-requires t)
     (par-later-requires t)
     (par-returns-3 t))
