@@ -1,0 +1,97 @@
+-- Proof: `rows::choose` meets its contract.
+-- Invariant: the first j choices are written. Measure: what is left of n. Mathematics in `proofs.Turns`. Assumes nothing.
+use Prim.Native.Nat.{ℕ, _-_, _≤_}
+use mathlib.Core.Path.{_≡_, ap, _∙_}
+use native.Mathlib.Omega.{arith}
+use lib.ListN.{length, take}
+use borrow.Author.Needs.{needs}
+use Rattle.circuit.specs.Pieces.{choices}
+use Rattle.compiler.specs.Writing.{written}
+use Rattle.compiler.proofs.Placing.{length-written, written-none}
+use Rattle.compiler.proofs.Turns.{choices-turn}
+use Rattle.compiler.proofs.rows.choose.Statement.{statement}
+use Rattle.compiler.proofs.rows.choose.Tie as tie
+
+abbrev Inv-loop : tie.InvT-loop
+Inv-loop netlist₀ at bit n first second j₀ netlist j = (j ≤ n) × (netlist ≡ written netlist₀ at (choices bit (take j first) (take j second)))
+
+abbrev μ-loop : tie.MeasureT-loop
+μ-loop netlist₀ at bit n first second j₀ netlist j = n - j
+
+loop-holds : tie.Need-loop-holds Inv-loop μ-loop
+loop-holds c = (omega arith, written-none _ _)
+
+wide-requires : tie.Need-wide-requires Inv-loop μ-loop
+wide-requires c κs = search needs
+
+add-put : tie.Need-add-put Inv-loop μ-loop
+add-put c = omega arith
+
+mul-put : tie.Need-mul-put Inv-loop μ-loop
+mul-put c = omega arith
+
+array-read-put : tie.Need-array-read-put Inv-loop μ-loop
+array-read-put c = omega arith
+
+mul-put-2 : tie.Need-mul-put-2 Inv-loop μ-loop
+mul-put-2 c = omega arith
+
+array-read-put-2 : tie.Need-array-read-put-2 Inv-loop μ-loop
+array-read-put-2 c = omega arith
+
+put-requires : tie.Need-put-requires Inv-loop μ-loop
+put-requires c κs =
+    let s = c .before .before .before in
+    let e = ap length (s .loop .inv .1) ∙ length-written _ _ _ in
+    omega arith
+
+add-j : tie.Need-add-j Inv-loop μ-loop
+add-j c = omega arith
+
+loop-less : tie.Need-loop-less Inv-loop μ-loop
+loop-less c = omega arith
+
+loop-again : tie.Need-loop-again Inv-loop μ-loop
+loop-again c =
+    let w = c .before .before .before .before in
+    let s = w .before .before in
+    let a = s .before .before .args in
+    let p = s .before .before .pre in (
+      omega (arith, w .before .loop-test .taken),
+      choices-turn (a .netlist .now) (a .at) 16 (s .loop .j) (w .wide .result) (w .wide .ensures) (s .loop .netlist) _ (a .t4)
+          (p .2) (omega (arith, p .0, w .before .loop-test .taken)) (a .bit) (a .t5) (p .3) (s .loop .inv .1) (c .before .before .put .ensures),
+    )
+
+wires-requires : tie.Need-wires-requires Inv-loop μ-loop
+wires-requires c κs = omega arith
+
+same-length : tie.Need-same-length Inv-loop μ-loop
+same-length c = ap length (c .before .before .loop .inv .1) ∙ length-written _ _ _
+
+returns : tie.Need-returns Inv-loop μ-loop
+returns c =
+    let s = c .before .before .loop in
+    let a = c .before .before .before .before .args in
+    let e : s .j ≡ a .n = omega arith in
+    (c .wires .ensures, s .inv .1 ∙ ap (λ (n : ℕ). written (a .netlist .now) (a .at) (choices (a .bit) (take n (a .t4)) (take n (a .t5)))) e)
+
+pub choose-spec : {M : Type 1} → statement M
+choose-spec =
+    tie.close
+    (tie.spec
+    Inv-loop
+    μ-loop
+    loop-holds
+    wide-requires
+    add-put
+    mul-put
+    array-read-put
+    mul-put-2
+    array-read-put-2
+    put-requires
+    add-j
+    loop-less
+    loop-again
+    wires-requires
+    same-length
+    returns)
