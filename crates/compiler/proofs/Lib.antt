@@ -2,3 +2,7 @@
 pub mod Placing
 pub mod Groups
 pub mod Turns
+pub mod Operations
+pub mod Pairs
+pub mod Forking
+pub mod Loops

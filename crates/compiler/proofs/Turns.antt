@@ -7,14 +7,15 @@ use native.Mathlib.Nat.{add-zero}
 use native.Mathlib.Numerals.{add-one}
 use native.Mathlib.Omega.{arith}
 use lib.ListN.{length, getD, set, take, drop, replicate, length-append, length-replicate, length-take}
-use lib.Seq.{take-suc, take-at, set-at, length-take-le, sets}
+use lib.Seq.{take-suc, take-at, set-at, drop-append-add, length-take-le}
 use Rattle.meaning.specs.Choices.{padded}
+use Rattle.meaning.proofs.Lists.{padded-length}
 use Rattle.circuit.specs.Cells.{Cell, wordRegister, choiceCell, inputCell}
 use Rattle.circuit.specs.Pieces.{_after_, wiresFrom, keeps, kept, choices, registers}
 use Rattle.circuit.specs.Compiling.{inputCells}
 use Rattle.circuit.proofs.Lengths.{keeps-length, kept-length, choices-length, registers-length, inputs-length, wires-length}
 use Rattle.compiler.specs.Writing.{placed, written}
-use Rattle.compiler.proofs.Placing.{plus-after, then, placed-then}
+use Rattle.compiler.proofs.Placing.{plus-after, then, placed-then, placed-within}
 use Rattle.compiler.proofs.Groups.{two}
 
 -- Rows of two lists, one behind the other.
@@ -51,10 +52,12 @@ inputs-more (suc n) j q e = ap (λ (l : List Cell). inputCell j ∷ l) (inputs-m
 pub first-more : (l : List ℕ) (j i : ℕ) → i ≡ j → j < length l → take (j + 1) l ≡ take j l ++ (getD l i 0 ∷ [])
 first-more l j i e h = ap (λ (n : ℕ). take n l) (add-one j) ∙ (take-suc l j 0 h ∙ ap (λ (n : ℕ). take j l ++ (getD l n 0 ∷ [])) (sym e))
 
--- An array that holds a row, one word longer.
-pub padded-long : (n : ℕ) (l : List ℕ) → length l ≤ n → length (padded n l) ≡ n
-padded-long n l h = length-append l (replicate (n - length l) 0) ∙ (omega (arith, length-replicate {A = ℕ} (n - length l) 0))
+drop-replicate : (j n m : ℕ) → n ≡ j + m → drop {A = ℕ} j (replicate n 0) ≡ replicate m 0
+drop-replicate zero n m e = let u : n ≡ m = omega arith in ap (λ (k : ℕ). replicate {A = ℕ} k 0) u
+drop-replicate (suc j) zero m e = absurd (omega arith)
+drop-replicate (suc j) (suc n) m e = drop-replicate j n m (omega arith)
 
+-- An array that holds a row, one word longer.
 pub padded-first : (n m : ℕ) (l : List ℕ) → length l ≡ m → take m (padded n l) ≡ l
 padded-first n m l e = take-at l (replicate (n - length l) 0) m e
 
@@ -63,6 +66,18 @@ padded-more n i v l e h =
     let d : n - length l ≡ suc (n - length (l ++ (v ∷ []))) = omega (arith, length-append l (v ∷ [])) in
     let z : List ℕ = replicate (n - length (l ++ (v ∷ []))) 0 in
     ap (λ (m : ℕ). set (l ++ replicate m 0) i v) d ∙ (set-at l 0 z v i e ∙ sym (append-assoc l (v ∷ []) z))
+
+-- An array that holds a row, with another row behind it.
+pub padded-join : (n i : ℕ) (a b : List ℕ) → length a ≡ i → length a + length b ≤ n → placed (padded n a) i b ≡ padded n (a ++ b)
+padded-join n i a b e h =
+    let long = padded-length n a (omega arith) in
+    let z : List ℕ = replicate (n - length a) 0 in
+    let rest : drop (i + length b) (padded n a) ≡ replicate (n - length (a ++ b)) 0 =
+        ap (λ (m : ℕ). drop (m + length b) (a ++ z)) (sym e)
+        ∙ (drop-append-add a z (length b) ∙ (drop-replicate (length b) (n - length a) (n - length (a ++ b))
+        (omega (arith, length-append a b)))) in
+    placed-within b (padded n a) i (omega arith)
+    ∙ rw (rest, padded-first n i a e) refl
 
 -- A turn of a loop that writes: the row and one piece are the longer row.
 module _ (l : List ℕ) (p : ℕ) (row piece longer : List Cell) (q : ℕ) (e : p + length row ≡ q) (s : longer ≡ row ++ piece) where

@@ -1,43 +1,91 @@
 -- Building: what the block of a term needs before it is emitted, and what stands in the netlist afterwards. Definitions only.
 -- Read after: `Writing`, circuit's `Blocks`, meaning's `Answers`. Assumes nothing.
-use Prim.Native.Nat.{ℕ, _+_, _<_}
+use Prim.Native.Nat.{ℕ, _+_, _≤_, _<_}
 use mathlib.Core.Path.{_≡_}
 use mathlib.Core.List.{List, _++_}
 use lib.ListN.{length, take}
 use Rattle.meaning.specs.declared.Verdict.the-variants as verdict
 use Rattle.meaning.specs.Choices.{padded}
-use Rattle.meaning.specs.Terms.{count, Term, tree}
+use Rattle.meaning.specs.Terms.{kindOf, count, Term, tree}
 use Rattle.meaning.specs.Counts.{ins, outs, size}
 use Rattle.meaning.specs.Checks.{verdictOf, operandTree}
 use Rattle.meaning.specs.Answers.{column}
 use Rattle.circuit.specs.Cells.{Cell}
-use Rattle.circuit.specs.Pieces.{_after_, Block, gates}
+use Rattle.circuit.specs.Pieces.{_after_, Block, Emitter, wiresFrom, gates}
 use Rattle.circuit.specs.Blocks.{emit}
-use Rattle.compiler.specs.declared.Made.{Made}
-use Rattle.compiler.specs.declared.Branched.{Branched}
+use Rattle.compiler.specs.declared.leaves.Made.{Made}
+use Rattle.compiler.specs.declared.blocks.Forked.{Forked}
 use Rattle.compiler.specs.Writing.{written, Room}
 
--- A table that a width accepts, and its words in and out by term.
-pub record Known (t is os : List ℕ) : Type 0 where
+-- Term k of a table that some width accepts, with the table's counts of words in and out in arrays.
+pub record Known (t is os : List ℕ) (k : ℕ) : Type 0 where
   pub width : ℕ
   pub accepted : verdictOf width t ≡ verdict.Accepted
   pub takes : is ≡ column ins t
   pub gives : os ≡ column outs t
+  pub there : k < count t
+
+-- It can be emitted at p.
+pub record Ready (t is os : List ℕ) (k : ℕ) (net : List ℕ) (p : ℕ) (words : List ℕ) : Type 0 where
+  pub known : Known t is os k
+  pub room : Room net p (size (tree t k))
+  pub sixteen : length words ≡ 16
 
 -- The block of a term on the first of 16 wires, as many as it takes.
 abbrev pub blockOf : Term → ℕ → ℕ → List ℕ → Block
 blockOf T p s words = emit T p s (take (ins T) words)
 
--- Term k of a known table can be emitted at p.
-pub record Ready (t is os : List ℕ) (k : ℕ) (net : List ℕ) (p : ℕ) (words : List ℕ) : Type 0 where
-  pub known : Known t is os
-  pub there : k < count t
-  pub room : Room net p (size (tree t k))
-  pub sixteen : length words ≡ 16
-
--- The block of T stands at p, and the answer says what follows it, its done wire, and its outputs.
+-- The block of T stands at p, and the answer has what follows it, its done wire, and its output wires.
 pub record Emits (T : Term) (p s : ℕ) (words old new : List ℕ) (r : Made) : Type 0 where
   pub next : r .next ≡ p + size T
   pub done : r .done ≡ blockOf T p s words .done
   pub outs : r .outs ≡ padded 16 (blockOf T p s words .outs)
   pub net : new ≡ written old p (blockOf T p s words .cells)
+
+-- The answer for a leaf at p, whose register is its only output.
+abbrev pub leafMade : ℕ → Made
+leafMade p = record { next = p + 4; done = p; outs = padded 16 (wiresFrom (p + 1) 1) }
+
+-- A test and its two branches, as Ite and Rec share them: e's block, its gates at `gate`, the blocks of f and g, and what follows.
+pub record Fork : Type 0 where
+  pub test : Block
+  pub gate : ℕ
+  pub yes : Block
+  pub no : Block
+  pub next : ℕ
+
+abbrev pub forkOf : Emitter → Emitter → Emitter → ℕ → ℕ → List ℕ → List ℕ → Fork
+forkOf e f g n s us ks =
+    let E = e n s us in
+    let p = n + length (E .cells) in
+    let F = f (7 after p) (5 after p) ks in
+    let q = 7 after p + length (F .cells) in
+    let G = g q (6 after p) ks in
+    record { test = E; gate = p; yes = F; no = G; next = q + length (G .cells) }
+
+abbrev pub forkCells : Fork → List Cell
+forkCells B = B .test .cells ++ (gates (B .gate) (B .test) ++ (B .yes .cells ++ B .no .cells))
+
+-- The operands of term k, an Ite or a Rec, can be emitted so from p on.
+pub record ForkReady (t is os : List ℕ) (k : ℕ) (net : List ℕ) (p : ℕ) (live kept : List ℕ) : Type 0 where
+  pub known : Known t is os k
+  pub tests : (3 ≤ kindOf t k) × (kindOf t k ≤ 4)
+  pub room : Room net p (size (operandTree t k 1) + 7 + size (operandTree t k 2) + size (operandTree t k 3))
+  pub sixteen : (length live ≡ 16) × (length kept ≡ 16)
+
+-- The fork of term k's operands, on as many of the live and of the kept wires as the test takes.
+abbrev pub forkAt : List ℕ → ℕ → ℕ → ℕ → List ℕ → List ℕ → Fork
+forkAt t k p s live kept =
+    forkOf (emit (operandTree t k 1)) (emit (operandTree t k 2)) (emit (operandTree t k 3)) p s
+    (take (ins (operandTree t k 1)) live) (take (ins (operandTree t k 1)) kept)
+
+-- It stands at p, and the answer has its wires.
+pub record Forks (B : Fork) (p : ℕ) (old new : List ℕ) (r : Forked) : Type 0 where
+  pub gate : r .gate ≡ B .gate
+  pub next : r .next ≡ B .next
+  pub tested : r .tested ≡ B .test .done
+  pub left : r .left ≡ B .yes .done
+  pub again : r .again ≡ B .no .done
+  pub ends : r .ends ≡ padded 16 (B .yes .outs)
+  pub feeds : r .feeds ≡ padded 16 (B .no .outs)
+  pub net : new ≡ written old p (forkCells B)

@@ -1,0 +1,110 @@
+-- Proof: `leaves::operation` meets its contract: each branch puts the cell that the definition picks. Mathematics in `proofs.Operations`.
+-- Assumes nothing.
+use Prim.Native.Nat.{ℕ}
+use mathlib.Core.Path.{sym, ap, _∙_}
+use mathlib.Core.List.{[], _∷_}
+use native.Mathlib.Omega.{arith}
+use lib.ListN.{getD}
+use borrow.Author.Needs.{needs}
+use Rattle.circuit.specs.Cells.{cell}
+use Rattle.compiler.specs.Writing.{written}
+use Rattle.compiler.proofs.Operations.{operation-const, operation-copy, operation-two, operation-one}
+use Rattle.circuit.specs.Cells.{Cell}
+use Rattle.compiler.proofs.leaves.operation.Statement.{statement}
+use Rattle.compiler.proofs.leaves.operation.Tie as tie
+
+put-requires : tie.Need-put-requires
+put-requires c κs = search needs
+
+wide-requires : tie.Need-wide-requires
+wide-requires c κs = search needs
+
+mul-put : tie.Need-mul-put
+mul-put c = search needs
+
+array-read-put : tie.Need-array-read-put
+array-read-put c =
+    let s = c .before .before in
+    omega (arith, c .wide .ensures, s .before .before .before .pre .1 (s .before .if1 .taken) (s .if2 .left))
+
+put-requires-2 : tie.Need-put-requires-2
+put-requires-2 c κs = search needs
+
+array-read-put-2 : tie.Need-array-read-put-2
+array-read-put-2 c = search needs
+
+array-read-put-3 : tie.Need-array-read-put-3
+array-read-put-3 c = search needs
+
+put-requires-3 : tie.Need-put-requires-3
+put-requires-3 c κs = search needs
+
+array-read-put-4 : tie.Need-array-read-put-4
+array-read-put-4 c = search needs
+
+put-requires-4 : tie.Need-put-requires-4
+put-requires-4 c κs = search needs
+
+same-length : tie.Need-same-length
+same-length c = search needs
+
+returns : tie.Need-returns
+returns c =
+    let s = c .before .before in
+    let b = s .before .before in
+    let a = b .before .before .before .args in
+    s .put .ensures ∙ ap (λ (x : Cell). written (a .netlist .now) (a .at) (x ∷ [])) (sym (operation-const (a .kind) (a .value) (a .t5) (b .before .if1 .taken) (b .if2 .taken)))
+
+same-length-2 : tie.Need-same-length-2
+same-length-2 c = search needs
+
+returns-2 : tie.Need-returns-2
+returns-2 c =
+    let s = c .before .before in
+    let b = s .before .before .before in
+    let a = b .before .before .before .args in
+    s .put2 .ensures ∙ (ap (λ (i : ℕ). written (a .netlist .now) (a .at) (cell 12 (getD (a .t5) i 0) 0 0 ∷ [])) (s .before .wide .ensures)
+    ∙ ap (λ (x : Cell). written (a .netlist .now) (a .at) (x ∷ [])) (sym (operation-copy (a .kind) (a .value) (a .t5) (b .before .if1 .taken) (b .if2 .left))))
+
+same-length-3 : tie.Need-same-length-3
+same-length-3 c = search needs
+
+returns-3 : tie.Need-returns-3
+returns-3 c =
+    let s = c .before .before in
+    let b = s .before .before in
+    let a = b .before .before .before .args in
+    s .put3 .ensures ∙ ap (λ (x : Cell). written (a .netlist .now) (a .at) (x ∷ [])) (sym (operation-two (a .kind) (a .value) (a .t5) (b .before .if1 .left) (b .if3 .taken)))
+
+same-length-4 : tie.Need-same-length-4
+same-length-4 c = search needs
+
+returns-4 : tie.Need-returns-4
+returns-4 c =
+    let s = c .before .before in
+    let b = s .before .before in
+    let a = b .before .before .before .args in
+    s .put4 .ensures ∙ ap (λ (x : Cell). written (a .netlist .now) (a .at) (x ∷ [])) (sym (operation-one (a .kind) (a .value) (a .t5) (b .before .if1 .left) (b .if3 .left)))
+
+pub operation-spec : {M : Type 1} → statement M
+operation-spec =
+    tie.close
+    (tie.spec
+    put-requires
+    wide-requires
+    mul-put
+    array-read-put
+    put-requires-2
+    array-read-put-2
+    array-read-put-3
+    put-requires-3
+    array-read-put-4
+    put-requires-4
+    same-length
+    returns
+    same-length-2
+    returns-2
+    same-length-3
+    returns-3
+    same-length-4
+    returns-4)
