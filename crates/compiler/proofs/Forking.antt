@@ -8,7 +8,7 @@ use lib.ListN.{length, take, length-append}
 use Rattle.meaning.specs.Choices.{padded, at}
 use Rattle.meaning.specs.Terms.{Term, ite}
 use Rattle.meaning.specs.Counts.{ins, outs, size}
-use Rattle.meaning.proofs.Typed.{Well}
+use Rattle.meaning.proofs.Typed.{Well, few-outs}
 use Rattle.meaning.proofs.Lists.{padded-at, padded-length}
 use Rattle.circuit.specs.Cells.{Cell, andCell}
 use Rattle.circuit.specs.Pieces.{_after_, Block, Emitter, wiresFrom, keeps, kept, choices, gates}
@@ -111,7 +111,13 @@ module _ {w : ℕ} {e f g : Term} (he : Well w e) (hf : Well w f) (hg : Well w g
   next-is = follows hg (b .next) (a .next + 6) kw kept-long C ∙ rw (no-is, middle-is) refl
 
   pub forks : Forks K n l v4 (record {
-    gate = a .next; next = c .next; tested = a .done; left = b .done; again = c .done; ends = b .outs; feeds = c .outs;
+    gate = a .next;
+    next = c .next;
+    tested = a .done;
+    left = b .done;
+    again = c .done;
+    ends = b .outs;
+    feeds = c .outs;
   })
   forks = record {
     gate = gate-is;
@@ -126,6 +132,41 @@ module _ {w : ℕ} {e f g : Term} (he : Well w e) (hf : Well w f) (hg : Well w g
         (B .net ∙ rw (yes-is, gate-is, plus-after 7 (K .gate)) refl)
         (C .net ∙ rw (no-is, middle-is) refl);
   }
+
+-- What a fork's answer tells its callers.
+module _ {w : ℕ} {e f g : Term} (he : Well w e) (hf : Well w f) (hg : Well w g) (same-f : ins e ≡ ins f) (same-g : ins e ≡ ins g)
+    (n s : ℕ) (live kw : List ℕ) (live-long : length live ≡ 16) (kept-long : length kw ≡ 16) {old new : List ℕ} {r : Forked}
+    (B : Forks (forkOf (emit e) (emit f) (emit g) n s (take (ins e) live) (take (ins e) kw)) n old new r) where
+  abbrev blocks : Fork
+  blocks = forkOf (emit e) (emit f) (emit g) n s (take (ins e) live) (take (ins e) kw)
+
+  us-long : length (take (ins e) live) ≡ ins e
+  us-long = first-long he n s live live-long
+
+  held-long : length (take (ins e) kw) ≡ ins e
+  held-long = first-long he n s kw kept-long
+
+  pub forked-gate : r .gate ≡ n + size e
+  forked-gate = B .gate ∙ fork-gate he hf hg same-f same-g n s (take (ins e) live) (take (ins e) kw) us-long held-long
+
+  pub forked-next : r .next ≡ n + (size e + 7 + size f + size g)
+  forked-next = B .next ∙ fork-next he hf hg same-f same-g n s (take (ins e) live) (take (ins e) kw) us-long held-long
+
+  pub ends-long : length (r .ends) ≡ 16
+  ends-long =
+      ap length (B .ends) ∙ padded-length 16 (blocks .yes .outs) (omega (
+        arith,
+        yes-outs he hf hg same-f same-g n s (take (ins e) live) (take (ins e) kw) us-long held-long,
+        few-outs hf,
+      ))
+
+  pub feeds-long : length (r .feeds) ≡ 16
+  feeds-long =
+      ap length (B .feeds) ∙ padded-length 16 (blocks .no .outs) (omega (
+        arith,
+        no-outs he hf hg same-f same-g n s (take (ins e) live) (take (ins e) kw) us-long held-long,
+        few-outs hg,
+      ))
 
 -- Ite, in the definition's own terms.
 module _ (e f g : Emitter) (b s : ℕ) (xs : List ℕ) where
@@ -175,9 +216,6 @@ module _ {w : ℕ} {e f g : Term} (he : Well w e) (hf : Well w f) (hg : Well w g
   forked : Forks I (p + length (keeps p s xs)) v1 v2 r
   forked = rw (kept-is, place-is) at B
 
-  n′ : ℕ
-  n′ = p + length (keeps p s xs)
-
   ends-are : take o (r .ends) ≡ I .yes .outs
   ends-are =
       ap (take o) (forked .ends) ∙ padded-first 16 o (I .yes .outs)
@@ -207,7 +245,11 @@ module _ {w : ℕ} {e f g : Term} (he : Well w e) (hf : Well w f) (hg : Well w g
     done = plus-after 1 (r .next) ∙ ap (λ (m : ℕ). 1 after m) (forked .next);
     outs =
         C1
-        ∙ rw (forked .next, plus-after 2 (I .next), o-is,
-        ← yes-outs he hf hg same-f same-g (p + length (keeps p s xs)) s xs (kept p xs) xs-long ks-long) refl;
+        ∙ rw (
+          forked .next,
+          plus-after 2 (I .next),
+          o-is,
+          ← yes-outs he hf hg same-f same-g (p + length (keeps p s xs)) s xs (kept p xs) xs-long ks-long,
+        ) refl;
     net = ite-cells (emit e) (emit f) (emit g) p s xs l v1 v2 v5 (K2 ∙ rw i-is refl) (forked .net) last-is;
   }

@@ -6,3 +6,4 @@ pub mod Operations
 pub mod Pairs
 pub mod Forking
 pub mod Loops
+pub mod Plans

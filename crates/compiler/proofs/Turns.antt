@@ -58,6 +58,13 @@ drop-replicate (suc j) zero m e = absurd (omega arith)
 drop-replicate (suc j) (suc n) m e = drop-replicate j n m (omega arith)
 
 -- An array that holds a row, one word longer.
+pub wires-sixteen : (p n : ℕ) → n ≤ 16 → length (padded 16 (wiresFrom p n)) ≡ 16
+wires-sixteen p n h = padded-length 16 (wiresFrom p n) (omega (arith, wires-length n p))
+
+pub kept-sixteen : (p n : ℕ) (words : List ℕ) → n ≤ 16 → length words ≡ 16 → length (padded 16 (kept p (take n words))) ≡ 16
+kept-sixteen p n words h e =
+    padded-length 16 (kept p (take n words)) (omega (arith, kept-length (take n words) p, length-take-le n words (omega arith)))
+
 pub padded-first : (n m : ℕ) (l : List ℕ) → length l ≡ m → take m (padded n l) ≡ l
 padded-first n m l e = take-at l (replicate (n - length l) 0) m e
 
@@ -73,9 +80,9 @@ padded-join n i a b e h =
     let long = padded-length n a (omega arith) in
     let z : List ℕ = replicate (n - length a) 0 in
     let rest : drop (i + length b) (padded n a) ≡ replicate (n - length (a ++ b)) 0 =
-        ap (λ (m : ℕ). drop (m + length b) (a ++ z)) (sym e)
-        ∙ (drop-append-add a z (length b) ∙ (drop-replicate (length b) (n - length a) (n - length (a ++ b))
-        (omega (arith, length-append a b)))) in
+    ap (λ (m : ℕ). drop (m + length b) (a ++ z)) (sym e)
+    ∙ (drop-append-add a z (length b) ∙ (drop-replicate (length b) (n - length a) (n - length (a ++ b))
+    (omega (arith, length-append a b)))) in
     placed-within b (padded n a) i (omega arith)
     ∙ rw (rest, padded-first n i a e) refl
 

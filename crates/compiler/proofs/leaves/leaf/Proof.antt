@@ -55,11 +55,10 @@ returns c =
     let s3 = s4 .before .before .before .before in
     let s2 = s3 .before .before .before .before in
     let s1 = s2 .before .before .before .before in
-    let a = s1 .before .before .before .args in
-    (
+    let a = s1 .before .before .before .args in (
       ap (λ (ws : List ℕ). record { next = a .at + 4; done = a .at; outs = ws }) (c .wires .ensures),
       leaf-group (a .netlist .now) (a .kind) (a .value) (a .at) (a .start) (a .words) _ _ _ _
-      (s1 .put .ensures) (s2 .put2 .ensures) (s3 .operation .ensures) (s4 .put3 .ensures),
+          (s1 .put .ensures) (s2 .put2 .ensures) (s3 .operation .ensures) (s4 .put3 .ensures),
     )
 
 pub leaf-spec : {M : Type 1} → statement M

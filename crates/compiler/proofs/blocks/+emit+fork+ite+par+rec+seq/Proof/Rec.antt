@@ -1,0 +1,300 @@
+-- Proof: the needs of `blocks::rec`. Mathematics in `proofs.Plans` and `proofs.Loops`. Assumes nothing.
+use Prim.Native.Nat.{ℕ}
+use mathlib.Core.Path.{_≡_, refl, ap, _∙_}
+use native.Mathlib.Omega.{arith}
+use lib.ListN.{length}
+use Rattle.compiler.specs.Building.{Known}
+use Rattle.compiler.proofs.Turns.{wires-sixteen, kept-sixteen}
+use Rattle.compiler.proofs.Forking.{forked-next, feeds-long}
+use Rattle.compiler.proofs.Loops.{rec-emits}
+use Rattle.compiler.proofs.Plans.{indexed, takes-few, RecPlan, rec-plan}
+use Rattle.compiler.proofs.blocks.+emit+fork+ite+par+rec+seq.Proof.Members.{rec-at, rec-calls}
+use Rattle.compiler.proofs.blocks.rec.Reads as reads
+use Rattle.compiler.proofs.blocks.+emit+fork+ite+par+rec+seq.Lts-rec as lts
+
+-- What the function knows at its entry.
+module _ (t : ℕ) (s : lts.Start (rec-calls t) (rec-at t) reads.Post) where
+  abbrev known : Known (s .args .table .now) (s .args .ins .now) (s .args .outs .now) (s .args .k)
+  known = s .pre .1 .0 .known
+
+  plan : RecPlan (known .width) (s .args .table .now) (s .args .ins .now) (s .args .outs .now) (s .args .k)
+  plan = rec-plan known (s .pre .1 .1)
+
+-- .. and what the fork's answer tells it.
+module _ (t : ℕ) (c : lts.After-keep (rec-calls t) (rec-at t) reads.Post) where
+  abbrev entry : lts.Start (rec-calls t) (rec-at t) reads.Post
+  entry = c .before .before .before .before .before .before .before .before .before .before .before .before .before .before
+
+  live-long : length (c .before .before .before .before .choose .result) ≡ 16
+  live-long = ap length (c .before .before .before .before .choose .ensures .0) ∙ wires-sixteen _ _ (takes-few (known t entry))
+
+  kept-long : length (c .keep .result) ≡ 16
+  kept-long = ap length (c .keep .ensures .0) ∙ kept-sixteen _ _ _ (takes-few (known t entry)) live-long
+
+pub mul-n : (t : ℕ) → lts.Need-mul-n (rec-calls t) (rec-at t) reads.Post
+mul-n t c =
+    let s = c .before .before in
+    let i = indexed (known t s) in
+    omega arith
+
+pub element-copy-out-n : (t : ℕ) → lts.Need-element-copy-out-n (rec-calls t) (rec-at t) reads.Post
+element-copy-out-n t c =
+    let s = c .before .before in
+    let i = indexed (known t s) in
+    omega arith
+
+pub add-round : (t : ℕ) → lts.Need-add-round (rec-calls t) (rec-at t) reads.Post
+add-round t c =
+    let s = c .before .before .before in
+    let z = plan t s in
+    let y = s .pre .1 .0 .room in
+    let i = takes-few (known t s) in
+    omega arith
+
+pub add-round-2 : (t : ℕ) → lts.Need-add-round-2 (rec-calls t) (rec-at t) reads.Post
+add-round-2 t c =
+    let s = c .before .before .before in
+    let z = plan t s in
+    let y = s .pre .1 .0 .room in
+    let i = takes-few (known t s) in
+    omega arith
+
+pub put-requires : (t : ℕ) → lts.Need-put-requires (rec-calls t) (rec-at t) reads.Post
+put-requires t c κs =
+    let s = c .before .before .before .before in
+    let z = plan t s in
+    let y = s .pre .1 .0 .room in
+    let i = takes-few (known t s) in
+    omega arith
+
+pub add-choose : (t : ℕ) → lts.Need-add-choose (rec-calls t) (rec-at t) reads.Post
+add-choose t c =
+    let s = c .before .before .before .before .before .before .before .before in
+    let z = plan t s in
+    let y = s .pre .1 .0 .room in
+    let i = takes-few (known t s) in
+    omega arith
+
+pub add-wires : (t : ℕ) → lts.Need-add-wires (rec-calls t) (rec-at t) reads.Post
+add-wires t c =
+    let s = c .before .before .before .before .before .before .before .before in
+    let z = plan t s in
+    let y = s .pre .1 .0 .room in
+    let i = takes-few (known t s) in
+    omega arith
+
+pub wires-requires : (t : ℕ) → lts.Need-wires-requires (rec-calls t) (rec-at t) reads.Post
+wires-requires t c κs =
+    let s = c .before .before .before .before .before .before .before .before in
+    let z = plan t s in
+    let y = s .pre .1 .0 .room in
+    let i = takes-few (known t s) in
+    (i, omega arith)
+
+pub choose-requires : (t : ℕ) → lts.Need-choose-requires (rec-calls t) (rec-at t) reads.Post
+choose-requires t c κs =
+    let fed = c in
+    let put1 = fed .before .before .before .before in
+    let s = put1 .before .before .before .before .before in
+    let z = plan t s in
+    let y = s .pre .1 .0 .room in
+    let i = takes-few (known t s) in (
+      i,
+      omega (arith, put1 .put .kept .0),
+      ap length (fed .wires .ensures) ∙ wires-sixteen _ _ i,
+      s .pre .1 .0 .sixteen,
+    )
+
+pub add-keep : (t : ℕ) → lts.Need-add-keep (rec-calls t) (rec-at t) reads.Post
+add-keep t c =
+    let s = c .before .before .before .before .before .before .before .before .before .before .before .before .before in
+    let z = plan t s in
+    let y = s .pre .1 .0 .room in
+    let i = takes-few (known t s) in
+    omega arith
+
+pub add-keep-2 : (t : ℕ) → lts.Need-add-keep-2 (rec-calls t) (rec-at t) reads.Post
+add-keep-2 t c =
+    let s = c .before .before .before .before .before .before .before .before .before .before .before .before .before in
+    let z = plan t s in
+    let y = s .pre .1 .0 .room in
+    let i = takes-few (known t s) in
+    omega arith
+
+pub keep-requires : (t : ℕ) → lts.Need-keep-requires (rec-calls t) (rec-at t) reads.Post
+keep-requires t c κs =
+    let chosen = c .before .before .before in
+    let put1 = chosen .before .before .before .before .before in
+    let s = put1 .before .before .before .before .before in
+    let z = plan t s in
+    let y = s .pre .1 .0 .room in
+    let i = takes-few (known t s) in (
+      i,
+      omega (arith, put1 .put .kept .0, chosen .choose .kept .0),
+      ap length (chosen .choose .ensures .0) ∙ wires-sixteen _ _ i,
+    )
+
+pub add-fork : (t : ℕ) → lts.Need-add-fork (rec-calls t) (rec-at t) reads.Post
+add-fork t c =
+    let s = c .before .before .before .before .before .before .before .before .before .before .before .before .before .before .before .before .before in
+    let z = plan t s in
+    let y = s .pre .1 .0 .room in
+    let i = takes-few (known t s) in
+    omega arith
+
+pub mul-fork : (t : ℕ) → lts.Need-mul-fork (rec-calls t) (rec-at t) reads.Post
+mul-fork t c =
+    let s = c .before .before .before .before .before .before .before .before .before .before .before .before .before .before .before .before .before in
+    let z = plan t s in
+    let y = s .pre .1 .0 .room in
+    let i = takes-few (known t s) in
+    omega arith
+
+pub add-fork-2 : (t : ℕ) → lts.Need-add-fork-2 (rec-calls t) (rec-at t) reads.Post
+add-fork-2 t c =
+    let s = c .before .before .before .before .before .before .before .before .before .before .before .before .before .before .before .before .before in
+    let z = plan t s in
+    let y = s .pre .1 .0 .room in
+    let i = takes-few (known t s) in
+    omega arith
+
+pub fork-requires : (t : ℕ) → lts.Need-fork-requires (rec-calls t) (rec-at t) reads.Post
+fork-requires t c κs =
+    let kept = c .before .before .before in
+    let chosen = kept .before .before .before .before in
+    let put1 = chosen .before .before .before .before .before in
+    let s = put1 .before .before .before .before .before in
+    let z = plan t s in
+    let y = s .pre .1 .0 .room in
+    let i = takes-few (known t s) in (
+      omega (arith, s .pre .0),
+      record {
+        known = known t s;
+        tests = omega (arith, s .pre .1 .1);
+        room = omega (arith, put1 .put .kept .0, chosen .choose .kept .0, kept .keep .kept .0);
+        sixteen = (live-long t kept, kept-long t kept);
+      },
+    )
+
+pub ending-requires : (t : ℕ) → lts.Need-ending-requires (rec-calls t) (rec-at t) reads.Post
+ending-requires t c κs =
+    let both = c .before .before .before .before .before in
+    let kept = both .before .before .before .before in
+    let chosen = kept .before .before .before .before in
+    let put1 = chosen .before .before .before .before .before in
+    let s = put1 .before .before .before .before .before in
+    let z = plan t s in
+    let y = s .pre .1 .0 .room in
+    let i = takes-few (known t s) in
+    let n = forked-next (z .fork .test .typed) (z .fork .yes .typed) (z .fork .no .typed) (z .fork .same-f) (z .fork .same-g) _ _ _ _ (live-long t kept) (kept-long t kept) (both .fork .ensures) in
+    omega (arith, put1 .put .kept .0, chosen .choose .kept .0, kept .keep .kept .0, both .fork .kept .1 .1 .1 .1 .0)
+
+pub add-registers : (t : ℕ) → lts.Need-add-registers (rec-calls t) (rec-at t) reads.Post
+add-registers t c =
+    let s = c .before .before .before .before .before .before .before .before .before .before .before .before .before .before .before .before .before .before .before .before .before .before .before .before .before .before .before in
+    let z = plan t s in
+    let y = s .pre .1 .0 .room in
+    let i = takes-few (known t s) in
+    omega arith
+
+pub registers-requires : (t : ℕ) → lts.Need-registers-requires (rec-calls t) (rec-at t) reads.Post
+registers-requires t c κs =
+    let over = c .before .before .before in
+    let both = over .before .before .before .before .before .before in
+    let kept = both .before .before .before .before in
+    let chosen = kept .before .before .before .before in
+    let put1 = chosen .before .before .before .before .before in
+    let s = put1 .before .before .before .before .before in
+    let z = plan t s in
+    let y = s .pre .1 .0 .room in
+    let i = takes-few (known t s) in
+    let n = forked-next (z .fork .test .typed) (z .fork .yes .typed) (z .fork .no .typed) (z .fork .same-f) (z .fork .same-g) _ _ _ _ (live-long t kept) (kept-long t kept) (both .fork .ensures) in (
+      i,
+      omega (arith, put1 .put .kept .0, chosen .choose .kept .0, kept .keep .kept .0, both .fork .kept .1 .1 .1 .1 .0, over .ending .kept .0),
+      feeds-long (z .fork .test .typed) (z .fork .yes .typed) (z .fork .no .typed) (z .fork .same-f) (z .fork .same-g) _ _ _ _ (live-long t kept) (kept-long t kept) (both .fork .ensures),
+    )
+
+pub add-put : (t : ℕ) → lts.Need-add-put (rec-calls t) (rec-at t) reads.Post
+add-put t c =
+    let both = c .before .before .before .before .before .before .before .before .before .before .before .before .before in
+    let kept = both .before .before .before .before in
+    let chosen = kept .before .before .before .before in
+    let put1 = chosen .before .before .before .before .before in
+    let s = put1 .before .before .before .before .before in
+    let z = plan t s in
+    let y = s .pre .1 .0 .room in
+    let i = takes-few (known t s) in
+    let n = forked-next (z .fork .test .typed) (z .fork .yes .typed) (z .fork .no .typed) (z .fork .same-f) (z .fork .same-g) _ _ _ _ (live-long t kept) (kept-long t kept) (both .fork .ensures) in
+    omega arith
+
+pub put-requires-2 : (t : ℕ) → lts.Need-put-requires-2 (rec-calls t) (rec-at t) reads.Post
+put-requires-2 t c κs =
+    let back = c .before .before .before in
+    let over = back .before .before .before .before in
+    let both = over .before .before .before .before .before .before in
+    let kept = both .before .before .before .before in
+    let chosen = kept .before .before .before .before in
+    let put1 = chosen .before .before .before .before .before in
+    let s = put1 .before .before .before .before .before in
+    let z = plan t s in
+    let y = s .pre .1 .0 .room in
+    let i = takes-few (known t s) in
+    let n = forked-next (z .fork .test .typed) (z .fork .yes .typed) (z .fork .no .typed) (z .fork .same-f) (z .fork .same-g) _ _ _ _ (live-long t kept) (kept-long t kept) (both .fork .ensures) in
+    omega (arith, put1 .put .kept .0, chosen .choose .kept .0, kept .keep .kept .0, both .fork .kept .1 .1 .1 .1 .0, over .ending .kept .0, back .registers .kept .0)
+
+pub add-t35 : (t : ℕ) → lts.Need-add-t35 (rec-calls t) (rec-at t) reads.Post
+add-t35 t c =
+    let both = c .before .before .before .before .before .before .before .before .before .before .before .before .before .before .before .before in
+    let kept = both .before .before .before .before in
+    let chosen = kept .before .before .before .before in
+    let put1 = chosen .before .before .before .before .before in
+    let s = put1 .before .before .before .before .before in
+    let z = plan t s in
+    let y = s .pre .1 .0 .room in
+    let i = takes-few (known t s) in
+    let n = forked-next (z .fork .test .typed) (z .fork .yes .typed) (z .fork .no .typed) (z .fork .same-f) (z .fork .same-g) _ _ _ _ (live-long t kept) (kept-long t kept) (both .fork .ensures) in
+    omega arith
+
+pub add-t30 : (t : ℕ) → lts.Need-add-t30 (rec-calls t) (rec-at t) reads.Post
+add-t30 t c =
+    let both = c .before .before .before .before .before .before .before .before .before .before .before .before .before .before .before .before in
+    let kept = both .before .before .before .before in
+    let chosen = kept .before .before .before .before in
+    let put1 = chosen .before .before .before .before .before in
+    let s = put1 .before .before .before .before .before in
+    let z = plan t s in
+    let y = s .pre .1 .0 .room in
+    let i = takes-few (known t s) in
+    let n = forked-next (z .fork .test .typed) (z .fork .yes .typed) (z .fork .no .typed) (z .fork .same-f) (z .fork .same-g) _ _ _ _ (live-long t kept) (kept-long t kept) (both .fork .ensures) in
+    omega arith
+
+pub same-length : (t : ℕ) → lts.Need-same-length (rec-calls t) (rec-at t) reads.Post
+same-length t c =
+    let again = c .before .before in
+    let back = again .before .before .before .before in
+    let over = back .before .before .before .before in
+    let both = over .before .before .before .before .before .before in
+    let kept = both .before .before .before .before in
+    let chosen = kept .before .before .before .before in
+    let put1 = chosen .before .before .before .before .before in
+    again .put2 .kept .0 ∙ (back .registers .kept .0 ∙ (over .ending .kept .0 ∙ (both .fork .kept .1 .1 .1 .1 .0 ∙ (kept .keep .kept .0
+    ∙ (chosen .choose .kept .0 ∙ put1 .put .kept .0)))))
+
+pub returns : (t : ℕ) → lts.Need-returns (rec-calls t) (rec-at t) reads.Post
+returns t c =
+    let again = c .before .before in
+    let back = again .before .before .before .before in
+    let over = back .before .before .before .before in
+    let both = over .before .before .before .before .before .before in
+    let kept = both .before .before .before .before in
+    let chosen = kept .before .before .before .before in
+    let fed = chosen .before in
+    let put1 = fed .before .before .before .before in
+    let s = put1 .before .before .before .before .before in
+    let z = plan t s in
+    let y = s .pre .1 .0 .room in
+    let i = takes-few (known t s) in
+    rw (z .decoded) (rec-emits (z .fork .test .typed) (z .fork .yes .typed) (z .fork .no .typed) (z .fork .same-f) (z .fork .same-g) (z .back)
+    _ _ _ (s .pre .1 .0 .sixteen) _ _ _ _ _ (z .takes) refl refl refl (omega arith) _ _ _ _ _ _ _ _ _ _ _ _
+    (put1 .put .ensures) (fed .wires .ensures) (chosen .choose .ensures .0) (chosen .choose .ensures .1) (kept .keep .ensures .0)
+    (kept .keep .ensures .1) (both .fork .ensures) (over .ending .ensures) (back .registers .ensures) (again .put2 .ensures))
