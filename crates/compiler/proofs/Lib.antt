@@ -7,3 +7,5 @@ pub mod Pairs
 pub mod Forking
 pub mod Loops
 pub mod Plans
+pub mod Circuits
+pub mod Unique

@@ -7,7 +7,7 @@ use lib.ListN.{length, take}
 use Rattle.meaning.specs.declared.Verdict.the-variants as verdict
 use Rattle.meaning.specs.Choices.{padded}
 use Rattle.meaning.specs.Terms.{kindOf, count, Term, tree}
-use Rattle.meaning.specs.Counts.{ins, outs, size}
+use Rattle.meaning.specs.Counts.{ins, outs, size, wholeSize}
 use Rattle.meaning.specs.Checks.{verdictOf, operandTree}
 use Rattle.meaning.specs.Answers.{column}
 use Rattle.circuit.specs.Cells.{Cell}
@@ -89,3 +89,8 @@ pub record Forks (B : Fork) (p : ℕ) (old new : List ℕ) (r : Forked) : Type 0
   pub ends : r .ends ≡ padded 16 (B .yes .outs)
   pub feeds : r .feeds ≡ padded 16 (B .no .outs)
   pub net : new ≡ written old p (forkCells B)
+
+-- The whole circuit of term k has room from the first cell on.
+pub record WholeReady (t is os : List ℕ) (k : ℕ) (net : List ℕ) : Type 0 where
+  pub known : Known t is os k
+  pub room : Room net 0 (wholeSize (tree t k))
