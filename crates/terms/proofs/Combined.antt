@@ -13,7 +13,7 @@ use Rattle.meaning.specs.Checks.{operandsOf, operandTree, countsFit, parSmall}
 use Rattle.meaning.proofs.Decoded.{tree-seq, tree-par, tree-ite, tree-rec, tree-leaf}
 use Rattle.terms.specs.declared.shapes.Known.{Known}
 use Rattle.terms.specs.Shapes.{knownOf, readAt, Small, seqShape, parShape, iteShape, recShape, leafShape, shapeOf, Ready}
-use Rattle.terms.proofs.Operands.{below-at, seq-operands, par-operands, ite-operands, rec-operands}
+use Rattle.terms.proofs.Operands.{below-at, seq-operands, par-operands, ite-operands, rec-operands, few-operands, none-joined}
 
 -- A sum of capped sizes is capped as the sum of the sizes.
 capped-two : (a b c : ℕ) → capped (capped a + capped b + c) ≡ capped (a + b + c)
@@ -30,13 +30,13 @@ known-small T a b = record { few-ins = a; few-outs = b; few-cells = min-le-right
 
 -- Term k, with arrays that know the lower terms.
 module _ {t : List ℕ} {k : ℕ} {i o s : List ℕ} (R : Ready t k i o s) where
-  -- An operand of a kind that has n of them: where it stands, and what is read of it.
-  module _ (n : ℕ) (e : operandsOf (kindOf t k) ≡ n) (j : ℕ) (l : 1 ≤ j) (u : j ≤ n) where
+  -- An operand: where it stands, and what is read of it.
+  module _ (j : ℕ) (l : 1 ≤ j) (u : j ≤ operandsOf (kindOf t k)) where
     pub operand-low : numberOf t k j < k
-    operand-low = below-at t k (operandsOf (kindOf t k)) (R .below) j l (omega arith)
+    operand-low = below-at t k (operandsOf (kindOf t k)) (R .below) j l u
 
-    pub readable : n ≤ 3 → (j < 4) × (k * 4 + 4 ≤ length t) × (numberOf t k j < 256)
-    readable h = (omega arith, R .inside, omega (arith, operand-low, R .few))
+    pub readable : (j < 4) × (k * 4 + 4 ≤ length t) × (numberOf t k j < 256)
+    readable = (omega (arith, few-operands (kindOf t k)), R .inside, omega (arith, operand-low, R .few))
 
     pub operand-known : {f : Known} → f ≡ readAt i o s (numberOf t k j) → f ≡ knownOf (operandTree t k j)
     operand-known h = h ∙ R .known (numberOf t k j) operand-low
@@ -50,14 +50,13 @@ module _ {t : List ℕ} {k : ℕ} {i o s : List ℕ} (R : Ready t k i o s) where
     unfolding seqShape shapeOf countsFit parSmall
     seq-found e =
         let n = seq-operands e in
-        let low = operand-low 2 n in
         let F = operandTree t k 1 in
         let G = operandTree t k 2 in
         rw (
-          operand-known 2 n 1 (omega arith) (omega arith) p,
-          operand-known 2 n 2 (omega arith) (omega arith) q,
+          operand-known 1 (omega arith) (omega arith) p,
+          operand-known 2 (omega arith) (omega arith) q,
           e,
-          tree-seq t k e (low 1 (omega arith) (omega arith)) (low 2 (omega arith) (omega arith)),
+          tree-seq t k e (operand-low 1 (omega arith) (omega arith)) (operand-low 2 (omega arith) (omega arith)),
           capped-two (size F) (size G) 4,
         )
 
@@ -65,14 +64,13 @@ module _ {t : List ℕ} {k : ℕ} {i o s : List ℕ} (R : Ready t k i o s) where
     unfolding parShape shapeOf countsFit parSmall
     par-found e =
         let n = par-operands e in
-        let low = operand-low 2 n in
         let F = operandTree t k 1 in
         let G = operandTree t k 2 in
         rw (
-          operand-known 2 n 1 (omega arith) (omega arith) p,
-          operand-known 2 n 2 (omega arith) (omega arith) q,
+          operand-known 1 (omega arith) (omega arith) p,
+          operand-known 2 (omega arith) (omega arith) q,
           e,
-          tree-par t k e (low 1 (omega arith) (omega arith)) (low 2 (omega arith) (omega arith)),
+          tree-par t k e (operand-low 1 (omega arith) (omega arith)) (operand-low 2 (omega arith) (omega arith)),
           capped-two (size F) (size G) 1,
         )
 
@@ -83,16 +81,15 @@ module _ {t : List ℕ} {k : ℕ} {i o s : List ℕ} (R : Ready t k i o s) where
     unfolding iteShape shapeOf countsFit parSmall
     ite-found d =
         let n = ite-operands d in
-        let low = operand-low 3 n in
         let E = operandTree t k 1 in
         let F = operandTree t k 2 in
         let G = operandTree t k 3 in
         rw (
-          operand-known 3 n 1 (omega arith) (omega arith) p,
-          operand-known 3 n 2 (omega arith) (omega arith) q,
-          operand-known 3 n 3 (omega arith) (omega arith) r,
+          operand-known 1 (omega arith) (omega arith) p,
+          operand-known 2 (omega arith) (omega arith) q,
+          operand-known 3 (omega arith) (omega arith) r,
           d,
-          tree-ite t k d (low 1 (omega arith) (omega arith)) (low 2 (omega arith) (omega arith)) (low 3 (omega arith) (omega arith)),
+          tree-ite t k d (operand-low 1 (omega arith) (omega arith)) (operand-low 2 (omega arith) (omega arith)) (operand-low 3 (omega arith) (omega arith)),
           capped-four (2 * ins E) (size E) (size F) (size G) 9 (outs F),
         )
 
@@ -100,22 +97,27 @@ module _ {t : List ℕ} {k : ℕ} {i o s : List ℕ} (R : Ready t k i o s) where
     unfolding recShape shapeOf countsFit parSmall
     rec-found d =
         let n = rec-operands d in
-        let low = operand-low 3 n in
         let E = operandTree t k 1 in
         let F = operandTree t k 2 in
         let G = operandTree t k 3 in
         rw (
-          operand-known 3 n 1 (omega arith) (omega arith) p,
-          operand-known 3 n 2 (omega arith) (omega arith) q,
-          operand-known 3 n 3 (omega arith) (omega arith) r,
+          operand-known 1 (omega arith) (omega arith) p,
+          operand-known 2 (omega arith) (omega arith) q,
+          operand-known 3 (omega arith) (omega arith) r,
           d,
-          tree-rec t k d (low 1 (omega arith) (omega arith)) (low 2 (omega arith) (omega arith)) (low 3 (omega arith) (omega arith)),
+          tree-rec t k d (operand-low 1 (omega arith) (omega arith)) (operand-low 2 (omega arith) (omega arith)) (operand-low 3 (omega arith) (omega arith)),
           capped-three (4 * ins E) (size E) (size F) (size G) 16,
         )
 
 -- Every other kind is a leaf.
-pub leaf-found : (t : List ℕ) (k : ℕ) → (kindOf t k ≡ 1 → ⊥) → (kindOf t k ≡ 2 → ⊥) → (kindOf t k ≡ 3 → ⊥) → (kindOf t k ≡ 4 → ⊥) →
-    leafShape (kindOf t k) (numberOf t k 1) ≡ shapeOf t k
+pub leaf-found : (t : List ℕ) (k : ℕ) → operandsOf (kindOf t k) ≡ 0 → leafShape (kindOf t k) (numberOf t k 1) ≡ shapeOf t k
 unfolding shapeOf countsFit parSmall
-leaf-found t k a b c d =
-    rw (tree-leaf t k a b c d, ne-eqb (kindOf t k) 1 a, ne-eqb (kindOf t k) 2 b, ne-eqb (kindOf t k) 3 c, ne-eqb (kindOf t k) 4 d)
+leaf-found t k h =
+    let n = none-joined (kindOf t k) h in
+    rw (
+      tree-leaf t k (n .0) (n .1) (n .2) (n .3),
+      ne-eqb (kindOf t k) 1 (n .0),
+      ne-eqb (kindOf t k) 2 (n .1),
+      ne-eqb (kindOf t k) 3 (n .2),
+      ne-eqb (kindOf t k) 4 (n .3),
+    )

@@ -6,7 +6,7 @@ use mathlib.Core.List.{List}
 use mathlib.Core.Logic.{inl, inr}
 use native.Mathlib.Omega.{arith}
 use lib.Dec.{eqb}
-use borrow.Author.Tests.{ltb-true, lt-ltb, le-ltb}
+use borrow.Author.Tests.{ltb-true, lt-ltb, le-ltb, ne-eqb}
 use Rattle.meaning.specs.Choices.{and}
 use Rattle.meaning.specs.Terms.{numberOf}
 use Rattle.meaning.specs.Checks.{operandsOf, operandsBelow}
@@ -80,3 +80,54 @@ few-operands kind =
     by-test (λ n. n ≤ 3) (eqb kind 2) _ _ (λ z. omega arith) (λ z.
     by-test (λ n. n ≤ 3) (eqb kind 3) _ _ (λ z. omega arith) (λ z.
     by-test (λ n. n ≤ 3) (eqb kind 4) _ _ (λ z. omega arith) (λ z. omega arith))))
+
+-- A kind that has operands is one of the four combinators, and has at least two ..
+pub joining : (kind : ℕ) → (operandsOf kind ≡ 0 → ⊥) → (1 ≤ kind) × (kind ≤ 4)
+unfolding operandsOf
+joining kind h =
+    let none : (1 ≤ kind → kind ≤ 4 → ⊥) → operandsOf kind ≡ 0 = λ f.
+    rw (
+      ne-eqb kind 1 (λ e. f (omega arith) (omega arith)),
+      ne-eqb kind 2 (λ e. f (omega arith) (omega arith)),
+      ne-eqb kind 3 (λ e. f (omega arith) (omega arith)),
+      ne-eqb kind 4 (λ e. f (omega arith) (omega arith)),
+    ) in
+    elim (split kind 1) [
+      | inl a ↦ absurd (h (none (λ l u. omega arith)))
+      | inr a ↦ elim (split 4 kind) [ inl b ↦ absurd (h (none (λ l u. omega arith))) | inr b ↦ (a, b) ]
+    ]
+
+pub rec-last : (kind : ℕ) → (operandsOf kind ≡ 0 → ⊥) → (kind ≡ 1 → ⊥) → (kind ≡ 2 → ⊥) → (kind ≡ 3 → ⊥) → kind ≡ 4
+rec-last kind h a b c =
+    let f = joining kind h in
+    elim (split kind 2) [
+      | inl x ↦ absurd (a (omega arith))
+      | inr x ↦ elim (split kind 3) [
+        | inl y ↦ absurd (b (omega arith))
+        | inr y ↦ elim (split kind 4) [ inl z ↦ absurd (c (omega arith)) | inr z ↦ omega arith ]
+      ]
+    ]
+
+pub two-operands : (kind : ℕ) → (operandsOf kind ≡ 0 → ⊥) → 2 ≤ operandsOf kind
+two-operands kind h =
+    let f = joining kind h in
+    elim (split kind 2) [
+      | inl x ↦ (let e : kind ≡ 1 = omega arith in omega (arith, seq-operands e))
+      | inr x ↦ elim (split kind 3) [
+        | inl y ↦ (let e : kind ≡ 2 = omega arith in omega (arith, par-operands e))
+        | inr y ↦ elim (split kind 4) [
+          | inl z ↦ (let e : kind ≡ 3 = omega arith in omega (arith, ite-operands e))
+          | inr z ↦ (let e : kind ≡ 4 = omega arith in omega (arith, rec-operands e))
+        ]
+      ]
+    ]
+
+-- .. and one that has none is none of them.
+pub none-joined : (kind : ℕ) → operandsOf kind ≡ 0 →
+    (kind ≡ 1 → ⊥) × (kind ≡ 2 → ⊥) × (kind ≡ 3 → ⊥) × (kind ≡ 4 → ⊥)
+none-joined kind h = (
+  (λ e. omega (arith, seq-operands e)),
+  (λ e. omega (arith, par-operands e)),
+  (λ e. omega (arith, ite-operands e)),
+  (λ e. omega (arith, rec-operands e)),
+)

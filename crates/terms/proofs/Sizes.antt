@@ -3,38 +3,19 @@
 use Prim.Native.Nat.{ℕ, _+_, _*_, _≤_, _<_}
 use mathlib.Core.Path.{_≡_}
 use mathlib.Core.List.{List}
-use mathlib.Core.Logic.{inl, inr}
 use native.Mathlib.Omega.{arith}
 use lib.ListN.{length}
-use borrow.Author.Tests.{ne-eqb}
 use Rattle.meaning.specs.Choices.{at}
 use Rattle.meaning.specs.Terms.{numberOf, kindOf, tree}
 use Rattle.meaning.specs.Counts.{ins, outs, size}
 use Rattle.meaning.specs.Checks.{operandsOf, operandTree}
-use Rattle.meaning.proofs.Tests.{split}
 use Rattle.meaning.proofs.Decoded.{tree-seq, tree-par, tree-ite, tree-rec, tree-leaf}
 use Rattle.meaning.proofs.Accepted.{Fits, seq-fits, par-fits, ite-fits, rec-fits, const-fits, field-fits, op-fits, Accepted, accepted}
 use Rattle.terms.specs.Scans.{CanSize}
-use Rattle.terms.proofs.Operands.{seq-operands, par-operands, ite-operands, rec-operands}
+use Rattle.terms.proofs.Operands.{joining, none-joined}
 use Rattle.terms.proofs.Columns.{at-column}
 
--- A kind that has operands is one of the four combinators.
-four-have : (kind : ℕ) → (operandsOf kind ≡ 0 → ⊥) → (1 ≤ kind) × (kind ≤ 4)
-unfolding operandsOf
-four-have kind h =
-    let none : (1 ≤ kind → kind ≤ 4 → ⊥) → operandsOf kind ≡ 0 = λ f.
-    rw (
-      ne-eqb kind 1 (λ e. f (omega arith) (omega arith)),
-      ne-eqb kind 2 (λ e. f (omega arith) (omega arith)),
-      ne-eqb kind 3 (λ e. f (omega arith) (omega arith)),
-      ne-eqb kind 4 (λ e. f (omega arith) (omega arith)),
-    ) in
-    elim (split kind 1) [
-      | inl a ↦ absurd (h (none (λ l u. omega arith)))
-      | inr a ↦ elim (split 4 kind) [ inl b ↦ absurd (h (none (λ l u. omega arith))) | inr b ↦ (a, b) ]
-    ]
-
--- Their operands are below them, and together smaller.
+-- The operands of a combinator are below it, and together smaller.
 module _ {w : ℕ} {t : List ℕ} {k : ℕ} where
   two-low : Fits w t k → kindOf t k ≤ 4 → (numberOf t k 1 < k) × (numberOf t k 2 < k)
   two-low (seq-fits e z a b p) h = (a, b)
@@ -84,13 +65,11 @@ module _ {t i o : List ℕ} {k : ℕ} (C : CanSize t i o k) where
 
   -- A leaf.
   pub size-leaf : operandsOf (kindOf t k) ≡ 0 → 4 ≡ size (tree t k)
-  size-leaf h =
-      rw (tree-leaf t k (λ e. omega (arith, seq-operands e)) (λ e. omega (arith, par-operands e)) (λ e. omega (arith, ite-operands e))
-      (λ e. omega (arith, rec-operands e)))
+  size-leaf h = let n = none-joined (kindOf t k) h in rw (tree-leaf t k (n .0) (n .1) (n .2) (n .3))
 
   module _ (h : operandsOf (kindOf t k) ≡ 0 → ⊥) where
     kind-four : (1 ≤ kindOf t k) × (kindOf t k ≤ 4)
-    kind-four = four-have (kindOf t k) h
+    kind-four = joining (kindOf t k) h
 
     pub lower : (numberOf t k 1 < k) × (numberOf t k 2 < k)
     lower = two-low fitting (kind-four .1)
@@ -123,15 +102,6 @@ module _ {t i o : List ℕ} {k : ℕ} (C : CanSize t i o k) where
 
     pub par-size : kindOf t k ≡ 2 → size (tree t k) ≡ size (operandTree t k 1) + size (operandTree t k 2) + 1
     par-size e = rw (tree-par t k e (lower .0) (lower .1))
-
-    pub kind-rec : (kindOf t k ≡ 1 → ⊥) → (kindOf t k ≡ 2 → ⊥) → (kindOf t k ≡ 3 → ⊥) → kindOf t k ≡ 4
-    kind-rec a b c = let f = kind-four in elim (split (kindOf t k) 2) [
-      | inl x ↦ absurd (a (omega arith))
-      | inr x ↦ elim (split (kindOf t k) 3) [
-        | inl y ↦ absurd (b (omega arith))
-        | inr y ↦ elim (split (kindOf t k) 4) [ inl z ↦ absurd (c (omega arith)) | inr z ↦ omega arith ]
-      ]
-    ]
 
     module _ (g : 3 ≤ kindOf t k) where
       pub third-lower : numberOf t k 3 < k

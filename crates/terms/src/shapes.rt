@@ -166,25 +166,15 @@ pub fn shape_of(
     ensures { λ r. ⌜ r ≡ shapeOf (now (table .entry)) k ⌝ }
 {
     let kind = crate::number(table, k, 0);
+    if crate::kinds::operands(kind) == 0 {
+        return leaf_shape(kind, crate::number(table, k, 1));
+    }
+    let e = read(table, k, 1, ins, outs, sizes);
+    let f = read(table, k, 2, ins, outs, sizes);
     match kind {
-        1 => seq_shape(
-            read(table, k, 1, ins, outs, sizes),
-            read(table, k, 2, ins, outs, sizes),
-        ),
-        2 => par_shape(
-            read(table, k, 1, ins, outs, sizes),
-            read(table, k, 2, ins, outs, sizes),
-        ),
-        3 => ite_shape(
-            read(table, k, 1, ins, outs, sizes),
-            read(table, k, 2, ins, outs, sizes),
-            read(table, k, 3, ins, outs, sizes),
-        ),
-        4 => rec_shape(
-            read(table, k, 1, ins, outs, sizes),
-            read(table, k, 2, ins, outs, sizes),
-            read(table, k, 3, ins, outs, sizes),
-        ),
-        _ => leaf_shape(kind, crate::number(table, k, 1)),
+        1 => seq_shape(e, f),
+        2 => par_shape(e, f),
+        3 => ite_shape(e, f, read(table, k, 3, ins, outs, sizes)),
+        _ => rec_shape(e, f, read(table, k, 3, ins, outs, sizes)),
     }
 }

@@ -12,8 +12,9 @@ use Rattle.meaning.specs.Terms.{kindOf, numberOf, tree}
 use Rattle.meaning.specs.Counts.{size}
 use Rattle.meaning.specs.Checks.{operandsOf, operandTree}
 use Rattle.terms.specs.Scans.{CanSize}
+use Rattle.terms.proofs.Operands.{rec-last}
 use Rattle.terms.proofs.Sizes.{place, size-leaf, lower, indices, two-small, first-part, second-part, third-part, third-lower}
-use Rattle.terms.proofs.Sizes.{seq-size, par-size, ite-size, rec-size, kind-rec}
+use Rattle.terms.proofs.Sizes.{seq-size, par-size, ite-size, rec-size}
 use Rattle.terms.proofs.size.Reads as size-reads
 use Rattle.terms.proofs.size.Kinds as size-kinds
 use Rattle.terms.proofs.+size.Lts-size as size-lts
@@ -133,7 +134,7 @@ is-rec m a =
     let e = joins m (a .before) in
     let q = kind-is m (a .before) in
     let not = a .match .rest in
-    kind-rec (can m e) (some m e) (λ z. not .0 .0 .1 (q ∙ z)) (λ z. not .0 .1 (q ∙ z)) (λ z. not .1 (q ∙ z))
+    rec-last (kind m e) (some m e) (λ z. not .0 .0 .1 (q ∙ z)) (λ z. not .0 .1 (q ∙ z)) (λ z. not .1 (q ∙ z))
 
 rec-whole : (m : ℕ) (x : Rec m) → let d = two-of-rec m x in let e = joins m d in
     size (tree (table m e) (term m e)) ≡ d .before .size .result + d .size2 .result + x .size4 .result

@@ -1,118 +1,64 @@
 -- Proof: `terms::shapes::shape_of` meets its contract, kind by kind: what is read of the operands is what is known of their trees.
 -- Mathematics in `proofs.Combined`. Assumes nothing.
-use mathlib.Core.Path.{_≡_, sym, _∙_}
+use Prim.Native.Nat.{ℕ, _≤_}
+use mathlib.Core.Path.{_≡_, sym, ap, _∙_}
 use native.Mathlib.Omega.{arith}
+use borrow.Author.Needs.{needs}
 use Rattle.meaning.specs.Terms.{kindOf}
 use Rattle.meaning.specs.Checks.{operandsOf}
-use Rattle.terms.proofs.Operands.{seq-operands, par-operands, ite-operands, rec-operands}
+use Rattle.terms.specs.Shapes.{Small}
+use Rattle.terms.proofs.Operands.{ite-operands, rec-operands, rec-last, two-operands}
 use Rattle.terms.proofs.Combined.{readable, operand-small, seq-found, par-found, ite-found, rec-found, leaf-found}
-use borrow.Author.Needs.{needs}
 use Rattle.terms.proofs.shapes.shape_of.Statement.{statement}
 use Rattle.terms.proofs.shapes.shape_of.Tie as tie
 
--- The table, the term and what is asked, where the kind is read.
-abbrev start : tie.After-number → tie.Start
-start d = d .before .before
+-- A term that has operands, with its table, and what is asked of the arrays.
+abbrev start : tie.Else1 → tie.Start
+start e = e .before .before .before .before
 
--- The kind of each arm, and how many operands it has.
-on-seq : (m : tie.At-match-keys1) → kindOf (start (m .before) .args .table .now) (start (m .before) .args .k) ≡ 1
-on-seq m = sym (m .before .number .ensures) ∙ m .match .keys1
+abbrev kind : tie.Else1 → ℕ
+kind e = kindOf (start e .args .table .now) (start e .args .k)
 
-seq-has : (m : tie.At-match-keys1) → operandsOf (kindOf (start (m .before) .args .table .now) (start (m .before) .args .k)) ≡ 2
-seq-has m = seq-operands (on-seq m)
+two : (e : tie.Else1) → 2 ≤ operandsOf (kind e)
+two e =
+    let some : operandsOf (kind e) ≡ 0 → ⊥
+        = λ h. e .if1 .left (e .before .operands .ensures ∙ ap operandsOf (e .before .before .number .ensures) ∙ h) in
+    two-operands (kind e) some
 
-on-par : (m : tie.At-match-keys2) → kindOf (start (m .before) .args .table .now) (start (m .before) .args .k) ≡ 2
-on-par m = sym (m .before .number .ensures) ∙ m .match .keys2
+-- The kind of each arm, and how many operands the last two have.
+abbrev joins : tie.After-read2 → tie.Else1
+joins d = d .before .before
 
-par-has : (m : tie.At-match-keys2) → operandsOf (kindOf (start (m .before) .args .table .now) (start (m .before) .args .k)) ≡ 2
-par-has m = par-operands (on-par m)
+kind-is : (d : tie.After-read2) → joins d .before .before .number .result ≡ kind (joins d)
+kind-is d = joins d .before .before .number .ensures
 
-on-ite : (m : tie.At-match-keys3) → kindOf (start (m .before) .args .table .now) (start (m .before) .args .k) ≡ 3
-on-ite m = sym (m .before .number .ensures) ∙ m .match .keys3
+is-rec : (m : tie.At-match-rest) → kind (joins (m .before)) ≡ 4
+is-rec m =
+    let e = joins (m .before) in
+    let q = kind-is (m .before) in
+    let not = m .match .rest in
+    rec-last (kind e) (λ h. omega (arith, two e)) (λ z. not .0 .0 .1 (q ∙ z)) (λ z. not .0 .1 (q ∙ z)) (λ z. not .1 (q ∙ z))
 
-ite-has : (m : tie.At-match-keys3) → operandsOf (kindOf (start (m .before) .args .table .now) (start (m .before) .args .k)) ≡ 3
-ite-has m = ite-operands (on-ite m)
+ite-three : (m : tie.At-match-keys3) → 3 ≤ operandsOf (kind (joins (m .before)))
+ite-three m = omega (arith, ite-operands (sym (kind-is (m .before)) ∙ m .match .keys3))
 
-on-rec : (m : tie.At-match-keys4) → kindOf (start (m .before) .args .table .now) (start (m .before) .args .k) ≡ 4
-on-rec m = sym (m .before .number .ensures) ∙ m .match .keys4
+rec-three : (m : tie.At-match-rest) → 3 ≤ operandsOf (kind (joins (m .before)))
+rec-three m = omega (arith, rec-operands (is-rec m))
 
-rec-has : (m : tie.At-match-keys4) → operandsOf (kindOf (start (m .before) .args .table .now) (start (m .before) .args .k)) ≡ 3
-rec-has m = rec-operands (on-rec m)
+both-small : (d : tie.After-read2) → Small (d .before .read .result) × Small (d .read2 .result)
+both-small d =
+    let R = start (joins d) .pre in
+    let h = two (joins d) in
+    (
+      operand-small R 1 (omega arith) (omega arith) (d .before .read .ensures),
+      operand-small R 2 (omega arith) h (d .read2 .ensures),
+    )
 
 number-requires : tie.Need-number-requires
 number-requires c κs = search needs
 
-read-requires : tie.Need-read-requires
-read-requires c κs = let m = c in readable (start (m .before) .pre) 2 (seq-has m) 1 (omega arith) (omega arith) (omega arith)
-
-read-requires-2 : tie.Need-read-requires-2
-read-requires-2 c κs = let m = c .before in readable (start (m .before) .pre) 2 (seq-has m) 2 (omega arith) (omega arith) (omega arith)
-
-seq-shape-requires : tie.Need-seq-shape-requires
-seq-shape-requires c κs =
-    let m = c .before .before in
-    let h = seq-has m in
-    let R = start (m .before) .pre in (
-      operand-small R 2 h 1 (omega arith) (omega arith) (c .before .read .ensures),
-      operand-small R 2 h 2 (omega arith) (omega arith) (c .read2 .ensures),
-    )
-
-read-requires-3 : tie.Need-read-requires-3
-read-requires-3 c κs = let m = c in readable (start (m .before) .pre) 2 (par-has m) 1 (omega arith) (omega arith) (omega arith)
-
-read-requires-4 : tie.Need-read-requires-4
-read-requires-4 c κs = let m = c .before in readable (start (m .before) .pre) 2 (par-has m) 2 (omega arith) (omega arith) (omega arith)
-
-par-shape-requires : tie.Need-par-shape-requires
-par-shape-requires c κs =
-    let m = c .before .before in
-    let h = par-has m in
-    let R = start (m .before) .pre in (
-      operand-small R 2 h 1 (omega arith) (omega arith) (c .before .read3 .ensures),
-      operand-small R 2 h 2 (omega arith) (omega arith) (c .read4 .ensures),
-    )
-
-read-requires-5 : tie.Need-read-requires-5
-read-requires-5 c κs = let m = c in readable (start (m .before) .pre) 3 (ite-has m) 1 (omega arith) (omega arith) (omega arith)
-
-read-requires-6 : tie.Need-read-requires-6
-read-requires-6 c κs = let m = c .before in readable (start (m .before) .pre) 3 (ite-has m) 2 (omega arith) (omega arith) (omega arith)
-
-read-requires-7 : tie.Need-read-requires-7
-read-requires-7 c κs =
-    let m = c .before .before in
-    readable (start (m .before) .pre) 3 (ite-has m) 3 (omega arith) (omega arith) (omega arith)
-
-ite-shape-requires : tie.Need-ite-shape-requires
-ite-shape-requires c κs =
-    let m = c .before .before .before in
-    let h = ite-has m in
-    let R = start (m .before) .pre in (
-      operand-small R 3 h 1 (omega arith) (omega arith) (c .before .before .read5 .ensures),
-      operand-small R 3 h 2 (omega arith) (omega arith) (c .before .read6 .ensures),
-      operand-small R 3 h 3 (omega arith) (omega arith) (c .read7 .ensures),
-    )
-
-read-requires-8 : tie.Need-read-requires-8
-read-requires-8 c κs = let m = c in readable (start (m .before) .pre) 3 (rec-has m) 1 (omega arith) (omega arith) (omega arith)
-
-read-requires-9 : tie.Need-read-requires-9
-read-requires-9 c κs = let m = c .before in readable (start (m .before) .pre) 3 (rec-has m) 2 (omega arith) (omega arith) (omega arith)
-
-read-requires-10 : tie.Need-read-requires-10
-read-requires-10 c κs =
-    let m = c .before .before in
-    readable (start (m .before) .pre) 3 (rec-has m) 3 (omega arith) (omega arith) (omega arith)
-
-rec-shape-requires : tie.Need-rec-shape-requires
-rec-shape-requires c κs =
-    let m = c .before .before .before in
-    let h = rec-has m in
-    let R = start (m .before) .pre in (
-      operand-small R 3 h 1 (omega arith) (omega arith) (c .before .before .read8 .ensures),
-      operand-small R 3 h 2 (omega arith) (omega arith) (c .before .read9 .ensures),
-      operand-small R 3 h 3 (omega arith) (omega arith) (c .read10 .ensures),
-    )
+operands-requires : tie.Need-operands-requires
+operands-requires c κs = search needs
 
 number-requires-2 : tie.Need-number-requires-2
 number-requires-2 c κs = search needs
@@ -122,60 +68,85 @@ leaf-shape-requires c κs = search needs
 
 returns : tie.Need-returns
 returns c =
-    let m = c .before .before .before in
-    c .seq-shape .ensures
-    ∙ seq-found (start (m .before) .pre) (c .before .before .read .ensures) (c .before .read2 .ensures) (on-seq m)
+    let r = c .before .before in
+    let kind-of = r .before .before .number .ensures in
+    c .leaf-shape .ensures ∙ rw (kind-of, c .before .number2 .ensures)
+    (leaf-found _ _ (sym (r .before .operands .ensures ∙ ap operandsOf kind-of) ∙ r .if1 .taken))
+
+read-requires : tie.Need-read-requires
+read-requires c κs = readable (start c .pre) 1 (omega arith) (omega (arith, two c))
+
+read-requires-2 : tie.Need-read-requires-2
+read-requires-2 c κs = readable (start (c .before) .pre) 2 (omega arith) (two (c .before))
+
+seq-shape-requires : tie.Need-seq-shape-requires
+seq-shape-requires c κs = both-small (c .before)
+
+par-shape-requires : tie.Need-par-shape-requires
+par-shape-requires c κs = both-small (c .before)
+
+read-requires-3 : tie.Need-read-requires-3
+read-requires-3 c κs = readable (start (joins (c .before)) .pre) 3 (omega arith) (ite-three c)
+
+ite-shape-requires : tie.Need-ite-shape-requires
+ite-shape-requires c κs =
+    let d = c .before .before in
+    let s = both-small d in
+    (s .0, s .1, operand-small (start (joins d) .pre) 3 (omega arith) (ite-three (c .before)) (c .read3 .ensures))
+
+read-requires-4 : tie.Need-read-requires-4
+read-requires-4 c κs = readable (start (joins (c .before)) .pre) 3 (omega arith) (rec-three c)
+
+rec-shape-requires : tie.Need-rec-shape-requires
+rec-shape-requires c κs =
+    let d = c .before .before in
+    let s = both-small d in
+    (s .0, s .1, operand-small (start (joins d) .pre) 3 (omega arith) (rec-three (c .before)) (c .read4 .ensures))
 
 returns-2 : tie.Need-returns-2
 returns-2 c =
-    let m = c .before .before .before in
-    c .par-shape .ensures
-    ∙ par-found (start (m .before) .pre) (c .before .before .read3 .ensures) (c .before .read4 .ensures) (on-par m)
+    let d = c .before .before in
+    c .seq-shape .ensures
+    ∙ seq-found (start (joins d) .pre) (d .before .read .ensures) (d .read2 .ensures) (sym (kind-is d) ∙ c .before .match .keys1)
 
 returns-3 : tie.Need-returns-3
 returns-3 c =
-    let m = c .before .before .before .before in
-    c .ite-shape .ensures
-    ∙ ite-found (start (m .before) .pre) (c .before .before .before .read5 .ensures)
-    (c .before .before .read6 .ensures) (c .before .read7 .ensures) (on-ite m)
+    let d = c .before .before in
+    c .par-shape .ensures
+    ∙ par-found (start (joins d) .pre) (d .before .read .ensures) (d .read2 .ensures) (sym (kind-is d) ∙ c .before .match .keys2)
 
 returns-4 : tie.Need-returns-4
 returns-4 c =
-    let m = c .before .before .before .before in
-    c .rec-shape .ensures
-    ∙ rec-found (start (m .before) .pre) (c .before .before .before .read8 .ensures)
-    (c .before .before .read9 .ensures) (c .before .read10 .ensures) (on-rec m)
+    let m = c .before .before in
+    let d = m .before in
+    c .ite-shape .ensures
+    ∙ ite-found (start (joins d) .pre) (d .before .read .ensures) (d .read2 .ensures) (c .before .read3 .ensures)
+    (sym (kind-is d) ∙ m .match .keys3)
 
 returns-5 : tie.Need-returns-5
 returns-5 c =
     let m = c .before .before in
-    let kind = m .before .number .ensures in
-    let not = m .match .rest in
-    c .leaf-shape .ensures ∙ rw (kind, c .before .number2 .ensures)
-    (leaf-found _ _ (λ e. not .0 .0 .0 .1 (kind ∙ e)) (λ e. not .0 .0 .1 (kind ∙ e)) (λ e. not .0 .1 (kind ∙ e)) (λ e. not .1 (kind ∙ e)))
+    let d = m .before in
+    c .rec-shape .ensures
+    ∙ rec-found (start (joins d) .pre) (d .before .read .ensures) (d .read2 .ensures) (c .before .read4 .ensures) (is-rec m)
 
 pub shape-of-spec : {M : Type 1} → statement M
 shape-of-spec =
     tie.close
     (tie.spec
     number-requires
-    read-requires
-    read-requires-2
-    seq-shape-requires
-    read-requires-3
-    read-requires-4
-    par-shape-requires
-    read-requires-5
-    read-requires-6
-    read-requires-7
-    ite-shape-requires
-    read-requires-8
-    read-requires-9
-    read-requires-10
-    rec-shape-requires
+    operands-requires
     number-requires-2
     leaf-shape-requires
     returns
+    read-requires
+    read-requires-2
+    seq-shape-requires
+    par-shape-requires
+    read-requires-3
+    ite-shape-requires
+    read-requires-4
+    rec-shape-requires
     returns-2
     returns-3
     returns-4
