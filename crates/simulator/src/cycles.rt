@@ -1,12 +1,15 @@
-// The wires of a cycle of a checked netlist, lowest first: a cell reads lower wires of the same cycle, and a register
-// what it holds, its starting value or its wire of the cycle before. Nothing is judged here. Document 01: "The simulator".
+// The wires of a cycle of a checked netlist, lowest first. A cell reads lower wires of the same cycle; a register shows
+// its starting value in a fresh circuit, and afterwards its wire of the cycle before. Nothing is judged here.
+// One loop serves power-up and step, so that a cell costs one jump on its kind. Document 01: "The simulator".
 ghost use mathlib.Core.Path.{_≡_};
-ghost use Prim.Native.Nat.{ℕ, _≤_, _<_};
+ghost use mathlib.Core.Bool.{false};
+ghost use mathlib.Core.List.{[]};
+ghost use Prim.Native.Nat.{_≤_, _<_};
 ghost use lib.ListN.{length, take};
 ghost use Rattle.meaning.specs.Choices.{and, or, not, num, «bit», at, pick};
-ghost use Rattle.circuit.specs.Cells.{stride, cellNumber, kindAt, cellCount, cellAt, value};
-ghost use Rattle.circuit.specs.Clock.{starting, shown, powerUp, step};
-ghost use Rattle.simulator.specs.Ready.{Ready};
+ghost use Rattle.circuit.specs.Cells.{stride, cellNumber, cellCount, cellAt, cellsOf, value};
+ghost use Rattle.circuit.specs.Clock.{pass, powerUp, step};
+ghost use Rattle.simulator.specs.Ready.{Ready, Past, heldBy};
 
 // A yes or no as a bit.
 fn bit(holds: bool) -> u32
@@ -52,20 +55,35 @@ fn high(netlist: &[u32], n: usize, j: usize, wires: &[u32]) -> bool
     lower(netlist, n, j, wires) != 0
 }
 
-// What cell n shows that is no register.
-fn combinational(
+// What a register at cell n shows: where it starts in a fresh circuit, else its wire of the cycle before.
+fn register(fresh: bool, start: u32, netlist: &[u32], n: usize, before: &[u32]) -> u32
+    requires { ⌜ (n < cellCount (now netlist))
+        × (fresh ≡ false → cellNumber (now netlist) n 1 < length (now before)) ⌝ }
+    ensures { λ r. ⌜ r ≡ pick fresh start (at (now (before .entry)) (cellNumber (now (netlist .entry)) n 1)) ⌝ }
+{
+    if fresh {
+        return start;
+    }
+    let wire = cells::number(netlist, n, 1) as usize;
+    before[wire]
+}
+
+// What cell n shows, whose lower wires stand in `wires`; `start` is where a register of a word starts.
+fn shows(
     width: u32,
     netlist: &[u32],
     n: usize,
+    fresh: bool,
+    start: u32,
+    before: &[u32],
     load: bool,
     words: &[u32],
     wires: &[u32],
 ) -> u32
     requires { ⌜ (Ready width (now netlist) (length (now words)) (length (now wires)))
-        × (n < cellCount (now netlist)) × (kindAt (now netlist) n ≡ 4 → ⊥)
-        × (kindAt (now netlist) n ≡ 5 → ⊥) × (kindAt (now netlist) n ≡ 10 → ⊥) ⌝ }
-    ensures { λ r. ⌜ ((held : ℕ → ℕ → ℕ) → r ≡ value width load (now (words .entry)) held
-        (at (take n (now (wires .entry)))) (cellAt (now (netlist .entry)) n)) ⌝ }
+        × (Past fresh (now netlist) (now before)) × (n < cellCount (now netlist)) ⌝ }
+    ensures { λ r. ⌜ r ≡ value width load (now (words .entry)) (heldBy fresh start (now (before .entry)) n)
+        (at (take n (now (wires .entry)))) (cellAt (now (netlist .entry)) n) ⌝ }
 {
     let kind = cells::kind(netlist, n);
     match kind {
@@ -73,12 +91,15 @@ fn combinational(
         1 => bit(neither(high(netlist, n, 1, wires))),
         2 => bit(both(high(netlist, n, 1, wires), high(netlist, n, 2, wires))),
         3 => bit(either(high(netlist, n, 1, wires), high(netlist, n, 2, wires))),
+        4 => register(fresh, 0, netlist, n, before),
+        5 => register(fresh, 1, netlist, n, before),
         6 => bit(high(netlist, n, 1, wires)),
         8 => {
             let word = cells::number(netlist, n, 1) as usize;
             words[word]
         }
         9 => cells::number(netlist, n, 1),
+        10 => register(fresh, start, netlist, n, before),
         11 => {
             if high(netlist, n, 1, wires) {
                 lower(netlist, n, 2, wires)
@@ -96,76 +117,38 @@ fn combinational(
     }
 }
 
-// What cell n shows at power-up, where a register of a word starts with `start`.
-fn first_value(
+// All wires of a cycle.
+fn cycle(
     width: u32,
     netlist: &[u32],
-    n: usize,
+    fresh: bool,
     start: u32,
-    load: bool,
-    words: &[u32],
-    wires: &[u32],
-) -> u32
-    requires { ⌜ (Ready width (now netlist) (length (now words)) (length (now wires)))
-        × (n < cellCount (now netlist)) ⌝ }
-    ensures { λ r. ⌜ r ≡ value width load (now (words .entry)) (starting (λ m. start) n)
-        (at (take n (now (wires .entry)))) (cellAt (now (netlist .entry)) n) ⌝ }
-{
-    let kind = cells::kind(netlist, n);
-    match kind {
-        4 => 0,
-        5 => 1,
-        10 => start,
-        _ => combinational(width, netlist, n, load, words, wires),
-    }
-}
-
-// What a register at cell n shows: its wire of the cycle before.
-fn register(netlist: &[u32], n: usize, before: &[u32]) -> u32
-    requires { ⌜ (n < cellCount (now netlist)) × (cellNumber (now netlist) n 1 < length (now before)) ⌝ }
-    ensures { λ r. ⌜ r ≡ at (now (before .entry)) (cellNumber (now (netlist .entry)) n 1) ⌝ }
-{
-    let wire = cells::number(netlist, n, 1) as usize;
-    before[wire]
-}
-
-// What cell n shows in a cycle after another.
-fn next_value(
-    width: u32,
-    netlist: &[u32],
-    n: usize,
     before: &[u32],
     load: bool,
     words: &[u32],
-    wires: &[u32],
-) -> u32
-    requires { ⌜ (Ready width (now netlist) (length (now words)) (length (now wires)))
-        × (n < cellCount (now netlist)) × (length (now before) ≡ cellCount (now netlist)) ⌝ }
-    ensures { λ r. ⌜ r ≡ value width load (now (words .entry)) (shown (now (before .entry)) n)
-        (at (take n (now (wires .entry)))) (cellAt (now (netlist .entry)) n) ⌝ }
+    after: &mut [u32],
+)
+    requires { ⌜ (Ready width (now netlist) (length (now words)) (length (now after)))
+        × (Past fresh (now netlist) (now before)) ⌝ }
+    ensures { λ _. ⌜ now (after .exit) ≡ pass width load (now (words .entry))
+        (heldBy fresh start (now (before .entry))) [] (cellsOf (now (netlist .entry))) ⌝ }
 {
-    let kind = cells::kind(netlist, n);
-    match kind {
-        4 => register(netlist, n, before),
-        5 => register(netlist, n, before),
-        10 => register(netlist, n, before),
-        _ => combinational(width, netlist, n, load, words, wires),
+    let count = cells::count(netlist);
+    let mut n: usize = 0;
+    while n < count {
+        let v = shows(width, netlist, n, fresh, start, before, load, words, after);
+        after[n] = v;
+        n = n + 1;
     }
 }
 
-// All wires of cycle 0.
+// All wires of cycle 0. There is no cycle before: the slice that stands for it is not read.
 pub fn first(width: u32, netlist: &[u32], load: bool, words: &[u32], wires: &mut [u32])
     requires { ⌜ Ready width (now netlist) (length (now words)) (length (now wires)) ⌝ }
     ensures { λ _. ⌜ now (wires .exit) ≡ powerUp width (λ n. 0) (now (netlist .entry)) load
         (now (words .entry)) ⌝ }
 {
-    let count = cells::count(netlist);
-    let mut n: usize = 0;
-    while n < count {
-        let shows = first_value(width, netlist, n, 0, load, words, wires);
-        wires[n] = shows;
-        n = n + 1;
-    }
+    cycle(width, netlist, true, 0, netlist, load, words, wires);
 }
 
 // All wires of a cycle from those of the cycle before.
@@ -182,11 +165,5 @@ pub fn next(
     ensures { λ _. ⌜ now (after .exit) ≡ step width (now (netlist .entry)) (now (before .entry)) load
         (now (words .entry)) ⌝ }
 {
-    let count = cells::count(netlist);
-    let mut n: usize = 0;
-    while n < count {
-        let shows = next_value(width, netlist, n, before, load, words, after);
-        after[n] = shows;
-        n = n + 1;
-    }
+    cycle(width, netlist, false, 0, before, load, words, after);
 }
