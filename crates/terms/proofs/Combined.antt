@@ -89,7 +89,8 @@ module _ {t : List ℕ} {k : ℕ} {i o s : List ℕ} (R : Ready t k i o s) where
           operand-known 2 (omega arith) (omega arith) q,
           operand-known 3 (omega arith) (omega arith) r,
           d,
-          tree-ite t k d (operand-low 1 (omega arith) (omega arith)) (operand-low 2 (omega arith) (omega arith)) (operand-low 3 (omega arith) (omega arith)),
+          tree-ite t k d (operand-low 1 (omega arith) (omega arith)) (operand-low 2 (omega arith) (omega arith))
+              (operand-low 3 (omega arith) (omega arith)),
           capped-four (2 * ins E) (size E) (size F) (size G) 9 (outs F),
         )
 
@@ -105,7 +106,8 @@ module _ {t : List ℕ} {k : ℕ} {i o s : List ℕ} (R : Ready t k i o s) where
           operand-known 2 (omega arith) (omega arith) q,
           operand-known 3 (omega arith) (omega arith) r,
           d,
-          tree-rec t k d (operand-low 1 (omega arith) (omega arith)) (operand-low 2 (omega arith) (omega arith)) (operand-low 3 (omega arith) (omega arith)),
+          tree-rec t k d (operand-low 1 (omega arith) (omega arith)) (operand-low 2 (omega arith) (omega arith))
+              (operand-low 3 (omega arith) (omega arith)),
           capped-three (4 * ins E) (size E) (size F) (size G) 16,
         )
 

@@ -18,7 +18,7 @@ use Rattle.meaning.specs.Counts.{ins, size, capped, wholeSize}
 use Rattle.meaning.specs.Checks.{widthFits, lengthFits, refusalAt, sizeVerdict, firstRefusal, verdictOf}
 use Rattle.meaning.specs.Answers.{onVerdict, factsOf}
 use Rattle.meaning.proofs.Tests.{both}
-use Rattle.terms.specs.Scans.{bareFacts, Scanned}
+use Rattle.terms.specs.Scans.{framedOf, bareFacts, Scanned}
 use Rattle.terms.proofs.Columns.{at-column}
 
 either-way : (b : Bool) (x y z v : Verdict) → x ≡ onVerdict y v (λ r p. verdict.Refused r p) →
@@ -47,16 +47,31 @@ last-below t h =
     let u : length t ≤ 1024 = leb-true _ _ (b .1) in
     (omega arith, omega arith, u)
 
+-- The width and the length come before all that follows.
+first-refused : (a b : Bool) (v : Verdict) (n p : ℕ) →
+    pick a (pick b verdict.Accepted (verdict.Refused 2 0)) (verdict.Refused 1 0) ≡ verdict.Refused n p →
+    pick a (pick b v (verdict.Refused 2 0)) (verdict.Refused 1 0) ≡ verdict.Refused n p
+first-refused true true v n p h = let z : _≡_ {A = ℕ} 0 1 = cc in absurd (omega arith)
+first-refused true false v n p h = h
+first-refused false b v n p h = h
+
+both-passed : (a b : Bool) → pick a (pick b verdict.Accepted (verdict.Refused 2 0)) (verdict.Refused 1 0) ≡ verdict.Accepted →
+    (a ≡ true) × (b ≡ true)
+both-passed true true h = (refl, refl)
+both-passed true false h = let z : _≡_ {A = ℕ} 0 1 = cc in absurd (omega arith)
+both-passed false b h = let z : _≡_ {A = ℕ} 0 1 = cc in absurd (omega arith)
+
 module _ (w : ℕ) (t : List ℕ) where
-  pub width-refused : widthFits w ≡ false → bareFacts (verdict.Refused 1 0) ≡ factsOf w t
-  unfolding factsOf verdictOf
-  width-refused h = rw h
+  pub frame-refused : (n p : ℕ) → framedOf w t ≡ verdict.Refused n p → bareFacts (verdict.Refused n p) ≡ factsOf w t
+  unfolding framedOf factsOf verdictOf
+  frame-refused n p h =
+      rw (first-refused (widthFits w) (lengthFits t) (firstRefusal (refusalAt w t) (count t) 0 (sizeVerdict t)) n p h)
+
+  pub frame-passed : framedOf w t ≡ verdict.Accepted → (widthFits w ≡ true) × (lengthFits t ≡ true)
+  unfolding framedOf
+  frame-passed h = both-passed (widthFits w) (lengthFits t) h
 
   module _ (W : widthFits w ≡ true) where
-    pub length-refused : lengthFits t ≡ false → bareFacts (verdict.Refused 2 0) ≡ factsOf w t
-    unfolding factsOf verdictOf
-    length-refused h = rw (W, h)
-
     module _ (L : lengthFits t ≡ true) (r : Facts) (S : Scanned w t r) where
       by-scan : verdictOf w t ≡ onVerdict (r .verdict) (sizeVerdict t) (λ n p. verdict.Refused n p)
       unfolding verdictOf

@@ -1,4 +1,4 @@
--- Scans: what the scan of a table answers, and what the recursive size asks. Definitions only.
+-- Scans: what the frame and the scan of a table answer, and what the recursive size asks. Definitions only.
 -- Document 01: "Refusal numbers". Read after: `Shapes`. Assumes nothing.
 use Prim.Native.Nat.{ℕ, _≤_, _<_}
 use mathlib.Core.Path.{_≡_}
@@ -6,11 +6,15 @@ use mathlib.Core.List.{List, []}
 use Rattle.meaning.specs.declared.Verdict.{Verdict}
 use Rattle.meaning.specs.declared.Verdict.the-variants as verdict
 use Rattle.meaning.specs.declared.Facts.{Facts}
-use Rattle.meaning.specs.Choices.{padded}
+use Rattle.meaning.specs.Choices.{pick, padded}
 use Rattle.meaning.specs.Terms.{count, tree}
 use Rattle.meaning.specs.Counts.{ins, outs, size}
-use Rattle.meaning.specs.Checks.{refusalAt, firstRefusal, verdictOf}
+use Rattle.meaning.specs.Checks.{widthFits, lengthFits, refusalAt, firstRefusal, verdictOf}
 use Rattle.meaning.specs.Answers.{column, knownFacts}
+
+-- 1 and 2.
+unfoldable pub framedOf : ℕ → List ℕ → Verdict
+framedOf w t = pick (widthFits w) (pick (lengthFits t) verdict.Accepted (verdict.Refused 2 0)) (verdict.Refused 1 0)
 
 -- A verdict with zeros for every term.
 abbrev pub bareFacts : Verdict → Facts

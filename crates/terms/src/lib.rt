@@ -2,7 +2,8 @@
 // A refused table has its number and place, and zeros for every term.
 // Document 01: "Term tables", "Refusal numbers".
 //
-//     check    the width and the length, then `scanned`, then the size of the whole circuit
+//     check    `framed`, then `scanned`, then the size of the whole circuit
+//     framed   1 and 2: the width and the length
 //     scanned  3 to 8 term by term, lowest first: `kinds::early`, the operands, `shapes::shape_of`
 //     size     the cells of one term of an accepted table
 pub mod kinds;
@@ -19,7 +20,7 @@ ghost use Rattle.meaning.specs.Choices.{and};
 ghost use Rattle.meaning.specs.Terms.{numberOf, tree};
 ghost use Rattle.meaning.specs.Counts.{«size»};
 ghost use Rattle.meaning.specs.Answers.{factsOf};
-ghost use Rattle.terms.specs.Scans.{Scanned, bareFacts, CanSize};
+ghost use Rattle.terms.specs.Scans.{framedOf, Scanned, bareFacts, CanSize};
 
 // Number j of term k.
 pub fn number(table: &[u32], k: usize, j: usize) -> u32
@@ -49,6 +50,19 @@ fn length_fits(len: usize) -> bool
     ensures { λ r. ⌜ r ≡ and (leb 1 len) (and (eqb (len % 4) 0) (leb len 1024)) ⌝ }
 {
     1 <= len && (len % 4 == 0 && len <= 1024)
+}
+
+// 1 and 2: the width and the length are those of a table.
+fn framed(width: u32, table: &[u32]) -> Verdict
+    ensures { λ r. ⌜ r ≡ framedOf width (now (table .entry)) ⌝ }
+{
+    if !kinds::within(width, 1, 32) {
+        return Verdict::Refused(1, 0);
+    }
+    if !length_fits(table.len()) {
+        return Verdict::Refused(2, 0);
+    }
+    Verdict::Accepted
 }
 
 // A verdict with zeros for every term.
@@ -114,19 +128,16 @@ fn scanned(width: u32, table: &[u32]) -> Facts
 pub fn check(width: u32, table: &[u32]) -> Facts
     ensures { λ r. ⌜ r ≡ factsOf width (now (table .entry)) ⌝ }
 {
-    if !kinds::within(width, 1, 32) {
-        return bare(Verdict::Refused(1, 0));
-    }
-    let len = table.len();
-    if !length_fits(len) {
-        return bare(Verdict::Refused(2, 0));
-    }
+    let frame = framed(width, table);
+    let Verdict::Accepted = frame else {
+        return bare(frame);
+    };
     let facts = scanned(width, table);
     let verdict = facts.verdict;
     let Verdict::Accepted = verdict else {
         return bare(verdict);
     };
-    let last = len / 4 - 1;
+    let last = table.len() / 4 - 1;
     if 4096 < 6 + facts.ins[last] + facts.sizes[last] {
         return bare(Verdict::Refused(9, 0));
     }

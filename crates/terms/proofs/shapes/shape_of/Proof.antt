@@ -22,7 +22,7 @@ kind e = kindOf (start e .args .table .now) (start e .args .k)
 two : (e : tie.Else1) → 2 ≤ operandsOf (kind e)
 two e =
     let some : operandsOf (kind e) ≡ 0 → ⊥
-        = λ h. e .if1 .left (e .before .operands .ensures ∙ ap operandsOf (e .before .before .number .ensures) ∙ h) in
+    = λ h. e .if1 .left (e .before .operands .ensures ∙ ap operandsOf (e .before .before .number .ensures) ∙ h) in
     two-operands (kind e) some
 
 -- The kind of each arm, and how many operands the last two have.
@@ -48,8 +48,7 @@ rec-three m = omega (arith, rec-operands (is-rec m))
 both-small : (d : tie.After-read2) → Small (d .before .read .result) × Small (d .read2 .result)
 both-small d =
     let R = start (joins d) .pre in
-    let h = two (joins d) in
-    (
+    let h = two (joins d) in (
       operand-small R 1 (omega arith) (omega arith) (d .before .read .ensures),
       operand-small R 2 (omega arith) h (d .read2 .ensures),
     )
