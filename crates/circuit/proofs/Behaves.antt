@@ -8,7 +8,6 @@ use Rattle.meaning.specs.Terms.{Term}
 use Rattle.meaning.specs.Published.{Runs, Lasts}
 use Rattle.meaning.proofs.Runs.{positive}
 use Rattle.meaning.proofs.Lasts.{before}
-use Rattle.circuit.specs.Pieces.{rise}
 use Rattle.circuit.specs.Promise.{Low}
 use Rattle.circuit.proofs.Streams.{Bits, Wires, low-part, Rise, register, rise-low, rise-held, rise-high}
 

@@ -6,7 +6,6 @@ use Rattle.meaning.specs.Choices.{pick, and, not}
 use Rattle.meaning.specs.Words.{Words}
 use Rattle.meaning.specs.Terms.{Term}
 use Rattle.meaning.specs.Cycles.{holds}
-use Rattle.circuit.specs.Pieces.{rise}
 use Rattle.circuit.proofs.Streams.{Bits, Wires, Rise}
 use Rattle.circuit.proofs.Behaves.{Starts, BehavesAs}
 

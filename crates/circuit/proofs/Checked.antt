@@ -14,7 +14,8 @@ use Rattle.meaning.proofs.Tests.{both}
 use Rattle.circuit.specs.Cells.{stride, kindAt, cellCount, cellAt, bitKind, wordKind}
 use Rattle.circuit.specs.Netlists.{netlistFits, cellRefusal, netlistVerdict}
 use Rattle.circuit.proofs.Verdicts.{not-refused, went-on, none-refused, scan-passes}
-use Rattle.circuit.proofs.Passes.{Passes, refusalOf, passes-of, refused-none}
+use Rattle.circuit.proofs.Passes.{Passes}
+use Rattle.circuit.proofs.Refusals.{refusalOf, passes-of, refused-none}
 
 pub record Checked (w : ℕ) (net : List ℕ) : Type 0 where
   pub wide : (1 ≤ w) × (w ≤ 32)
@@ -24,7 +25,8 @@ pub record Checked (w : ℕ) (net : List ℕ) : Type 0 where
 
 module _ (w : ℕ) (net : List ℕ) (h : netlistVerdict w net ≡ verdict.Accepted) where
   -- What the verdict has tried.
-  went : (widthFits w ≡ true) × (netlistFits net ≡ true) × (firstRefusal (cellRefusal w net) (cellCount net) 0 verdict.Accepted ≡ verdict.Accepted)
+  went : (widthFits w ≡ true) × (netlistFits net ≡ true) ×
+      (firstRefusal (cellRefusal w net) (cellCount net) 0 verdict.Accepted ≡ verdict.Accepted)
   unfolding netlistVerdict
   went =
       let a = went-on _ _ _ _ h in

@@ -11,7 +11,6 @@ use borrow.Author.Tests.{lt-ltb, le-ltb}
 use Rattle.meaning.specs.declared.Verdict.the-variants as verdict
 use Rattle.meaning.specs.Choices.{at}
 use Rattle.meaning.specs.Words.{Words}
-use Rattle.meaning.specs.Terms.{count}
 use Rattle.circuit.specs.Cells.{Cell, kindAt, cellCount, cellAt, cellsOf, value}
 use Rattle.circuit.specs.Netlists.{netlistVerdict}
 use Rattle.circuit.specs.Clock.{Held, pass, starting, shown, wires}
@@ -19,7 +18,23 @@ use Rattle.circuit.proofs.Places.{Each}
 use Rattle.circuit.proofs.Streams.{Bits, Wires}
 use Rattle.circuit.proofs.Equations.{Run, heldAt, Obeys}
 use Rattle.circuit.proofs.Indexed.{by-cells, of-cell, cells-length}
-use Rattle.circuit.proofs.Passes.{Passes, load-passes, not-passes, and-passes, or-passes, low-passes, high-passes, nonzero-passes, input-passes, constant-passes, register-passes, choice-passes, copy-passes, two-passes, one-passes}
+use Rattle.circuit.proofs.Passes.{
+  Passes,
+  load-passes,
+  not-passes,
+  and-passes,
+  or-passes,
+  low-passes,
+  high-passes,
+  nonzero-passes,
+  input-passes,
+  constant-passes,
+  register-passes,
+  choice-passes,
+  copy-passes,
+  two-passes,
+  one-passes,
+}
 use Rattle.circuit.proofs.Checked.{Checked, checked}
 
 length-new : (l : List ℕ) (v : ℕ) → length (l ++ (v ∷ [])) ≡ suc (length l)

@@ -113,10 +113,12 @@ module _ (w : ℕ) (t : List ℕ) (ok : verdictOf w t ≡ verdict.Accepted) (sta
     (fit : (k : ℕ) → wordsFit w (ins (mainOf t)) (inputs k) ≡ true) where
   pub starts-done : (k : ℕ) → doneOf w starts (mainOf t) load inputs k ≡ doneOf w starts' (mainOf t) load inputs k
   starts-done =
-      done-unique w (mainOf t) load _ _ inputs _ _ (promise-holds w t ok starts load inputs fit) (promise-holds w t ok starts' load inputs fit)
+      done-unique w (mainOf t) load _ _ inputs _ _ (promise-holds w t ok starts load inputs fit)
+      (promise-holds w t ok starts' load inputs fit)
 
   pub starts-outputs : (s u : ℕ) → s ≤ u → begins load (doneOf w starts (mainOf t) load inputs) s ≡ true →
       doneOf w starts (mainOf t) load inputs u ≡ true →
       outputsOf w starts (mainOf t) load inputs u ≡ outputsOf w starts' (mainOf t) load inputs u
   starts-outputs =
-      shown-unique w (mainOf t) load _ _ inputs _ _ (promise-holds w t ok starts load inputs fit) (promise-holds w t ok starts' load inputs fit)
+      shown-unique w (mainOf t) load _ _ inputs _ _ (promise-holds w t ok starts load inputs fit)
+      (promise-holds w t ok starts' load inputs fit)

@@ -2,7 +2,7 @@
 -- clock it keeps the promise, for every choice of starting words. Assumes nothing.
 use Prim.Native.Nat.{ℕ, suc, _+_, _*_, _^_, _≤_, _<_}
 use mathlib.Core.Path.{_≡_, refl, sym, _∙_, subst}
-use mathlib.Core.Bool.{true}
+use mathlib.Core.Bool.{Bool, true}
 use mathlib.Core.List.{List}
 use native.Mathlib.Omega.{arith}
 use lib.Dec.{eqb}
@@ -12,6 +12,7 @@ use borrow.Author.Tests.{eqb-true, le-leb, eq-eqb}
 use Rattle.meaning.specs.declared.Verdict.{Verdict}
 use Rattle.meaning.specs.declared.Verdict.the-variants as verdict
 use Rattle.meaning.specs.Choices.{at, allBelow}
+use Rattle.meaning.specs.Words.{Words}
 use Rattle.meaning.specs.Terms.{Term, mainOf}
 use Rattle.meaning.specs.Counts.{ins, outs, wholeSize}
 use Rattle.meaning.specs.Checks.{verdictOf}
@@ -21,7 +22,7 @@ use Rattle.meaning.proofs.Tests.{both}
 use Rattle.meaning.proofs.Lists.{all-below-every}
 use Rattle.meaning.proofs.Accepted.{accepted}
 use Rattle.meaning.proofs.Typed.{few-ins, Well, main-well}
-use Rattle.circuit.specs.Cells.{Cell, stride, kindAt, cellCount, cellAt, bitKind, wordKind}
+use Rattle.circuit.specs.Cells.{Cell, stride, kindAt, cellCount, cellAt, bitKind, wordKind, value}
 use Rattle.circuit.specs.Netlists.{netlistVerdict}
 use Rattle.circuit.specs.Pieces.{_after_}
 use Rattle.circuit.specs.Compiling.{mainBlock, wholeCells, netlistOf}
@@ -32,17 +33,17 @@ use Rattle.circuit.proofs.Places.{Each}
 use Rattle.circuit.proofs.Sized.{main-outs, main-size, whole-size, netlist-length}
 use Rattle.circuit.proofs.Streams.{Bits, Wires}
 use Rattle.circuit.proofs.Equations.{Obeys}
+use Rattle.circuit.proofs.Whole.{whole-keeps}
 use Rattle.circuit.proofs.Indexed.{by-cells, of-cell, count-numbers, cells-numbers}
 use Rattle.circuit.proofs.Verdicts.{scan-passes}
 use Rattle.circuit.proofs.Passes.{Passes, more-given, input-given}
 use Rattle.circuit.proofs.Checked.{Checked, checking}
-use Rattle.circuit.proofs.Clocked.{clocked, obeyed, wires-count}
+use Rattle.circuit.proofs.Clocked.{clocked, obeyed, wires-count, lower-only}
 use Rattle.circuit.proofs.PassPieces.{HasKind, word-at}
 use Rattle.circuit.proofs.PassBlocks.{Fine}
 use Rattle.circuit.proofs.PassBranches.{main-fine, whole-passes}
 use Rattle.circuit.proofs.InRange.{in-range}
 use Rattle.circuit.proofs.Simulates.{names-given, word-kind, wire-in-range}
-use Rattle.circuit.proofs.Whole.{whole-keeps}
 
 module _ (w : ℕ) (t : List ℕ) (ok : verdictOf w t ≡ verdict.Accepted) where
   abbrev main : Term
@@ -93,6 +94,11 @@ module _ (w : ℕ) (t : List ℕ) (ok : verdictOf w t ≡ verdict.Accepted) wher
 
   pub netlist-accepted : netlistVerdict w net ≡ verdict.Accepted
   netlist-accepted = checking w net netlist-checked
+
+  -- So no cell but a register depends on its own wire or a later one: there are no combinational loops.
+  pub no-loops : (n : ℕ) → n < cellCount net → (l : Bool) (words : Words) (held : ℕ → ℕ → ℕ) (r s : ℕ → ℕ) →
+      ((j : ℕ) → j < n → r j ≡ s j) → value w l words held r (cellAt net n) ≡ value w l words held s (cellAt net n)
+  no-loops n there = lower-only w net netlist-accepted n there
 
   -- Done is a bit and the outputs are words of the netlist.
   main-is-fine : Fine (kindAt net) w (ins main) (cellCount net) (6 after ins main) (mainBlock main)
@@ -163,6 +169,6 @@ module _ (w : ℕ) (t : List ℕ) (ok : verdictOf w t ≡ verdict.Accepted) wher
         eq-eqb _ _ (wires-count w starts net load inputs k),
         eq-eqb (cellCount net) _ refl,
         scan-passes (wireRefusal w net (wires w starts net load inputs k)) (cellCount net) 0 (inputsVerdict w net (inputs (suc k)))
-        (λ n l u. none-refuses k n (omega arith)),
+            (λ n l u. none-refuses k n (omega arith)),
         inputs-accepted (suc k),
       )

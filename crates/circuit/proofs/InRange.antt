@@ -8,7 +8,6 @@ use native.Mathlib.Omega.{arith}
 use borrow.Author.Tests.{lt-ltb, le-ltb}
 use Rattle.meaning.specs.Choices.{and, or, not, num, bit, at}
 use Rattle.meaning.specs.Words.{Words, operation}
-use Rattle.meaning.specs.Terms.{count}
 use Rattle.meaning.proofs.Tests.{by-test}
 use Rattle.meaning.proofs.Ranges.{operation-lt}
 use Rattle.circuit.specs.Cells.{Cell, kindAt, cellCount, cellAt, value}
@@ -16,7 +15,26 @@ use Rattle.circuit.specs.Clock.{Held, wires}
 use Rattle.circuit.proofs.Streams.{Bits, Wires}
 use Rattle.circuit.proofs.Equations.{heldAt}
 use Rattle.circuit.proofs.Indexed.{of-cell}
-use Rattle.circuit.proofs.Passes.{BitBelow, WordBelow, Passes, load-passes, not-passes, and-passes, or-passes, low-passes, high-passes, nonzero-passes, input-passes, constant-passes, register-passes, choice-passes, copy-passes, two-passes, one-passes, kindOfCell}
+use Rattle.circuit.proofs.Passes.{
+  BitBelow,
+  WordBelow,
+  Passes,
+  load-passes,
+  not-passes,
+  and-passes,
+  or-passes,
+  low-passes,
+  high-passes,
+  nonzero-passes,
+  input-passes,
+  constant-passes,
+  register-passes,
+  choice-passes,
+  copy-passes,
+  two-passes,
+  one-passes,
+  kindOfCell,
+}
 use Rattle.circuit.proofs.Checked.{Checked}
 use Rattle.circuit.proofs.Clocked.{Shows, clocked, shown-now}
 

@@ -100,8 +100,7 @@ module _ {w : ℕ} {e f g : Term} {s : Bits} {x : Wires} (B : Branching w e f g 
   at-end : (m o : ℕ) (v a : Words) → Tested B m v a → m < o → Low s m o → B .F .Idle o → B .G .Idle o →
       IteIdle o × (B .test o ≡ holds a)
   at-end m o v a M h l fi gi =
-      let z = stay (B .E) m o (omega arith) (M .e-idle) l in
-      (
+      let z = stay (B .E) m o (omega arith) (M .e-idle) l in (
         record { e-idle = z .0; f-idle = fi; g-idle = gi; seen = after-register (B .E) (B .D) m o h (M .e-idle) l },
         cc (B .tests o, z .1, M .word),
       )

@@ -1,7 +1,9 @@
--- What is shown of the definitions.
+-- What is shown of the definitions, in order. The promise is `promise-holds` in `Holds`.
+-- How many cells and wires there are, and where the parts of a block stand.
 pub mod Lengths
 pub mod Places
 pub mod Sized
+-- Blocks as functions of the cycle, which behave as the terms that they are made of, and keep the promise where runs start them.
 pub mod Streams
 pub mod Behaves
 pub mod LeafBlock
@@ -13,19 +15,24 @@ pub mod Loop
 pub mod Round
 pub mod RecBlock
 pub mod Start
+-- Emitted blocks, where every wire obeys its cell.
 pub mod Equations
 pub mod Wired
+pub mod Whole
+-- The checks 12 to 16, and that every wire obeys its cell where they pass.
 pub mod Indexed
 pub mod Verdicts
 pub mod Passes
+pub mod Refusals
 pub mod Checked
 pub mod Clocked
+-- Emitted cells pass, and wires stay in range.
 pub mod PassPieces
 pub mod PassBlocks
 pub mod PassBranches
 pub mod InRange
 pub mod Simulates
-pub mod Whole
+-- The theorems, what follows from them, circuits that break the promise, and small runs.
 pub mod Holds
 pub mod Unique
 pub mod Corollaries

@@ -4,8 +4,6 @@ use mathlib.Core.Path.{_≡_}
 use mathlib.Core.Bool.{true, false}
 use Rattle.meaning.specs.Choices.{pick, and, or, not}
 use Rattle.meaning.specs.Terms.{Term}
-use Rattle.meaning.specs.Cycles.{rounds}
-use Rattle.meaning.proofs.Runs.{once}
 use Rattle.circuit.proofs.Streams.{Bits, Wires, and-false, Rise, rise-held}
 use Rattle.circuit.proofs.Branching.{Branching}
 

@@ -8,14 +8,25 @@ use lib.Dec.{ltb}
 use lib.ListN.{length, length-append}
 use borrow.Author.Tests.{ltb-true, ltb-false, le-ltb}
 use Rattle.meaning.specs.Choices.{pick, at}
-use Rattle.meaning.specs.Terms.{count}
 use Rattle.meaning.proofs.Typed.{LeafFits, const-leaf, field-leaf, op-leaf}
 use Rattle.circuit.specs.Cells.{Cell, andCell}
 use Rattle.circuit.specs.Pieces.{_after_, Block, Emitter, rise}
 use Rattle.circuit.specs.Blocks.{operationCell, leafBlock, seqBlock, parBlock}
 use Rattle.circuit.proofs.Places.{PairPlaces, seqPlaces, parPlaces, Each, each-split, each-join}
 use Rattle.circuit.proofs.Sized.{Gives}
-use Rattle.circuit.proofs.Passes.{BitBelow, Passes, not-passes, and-passes, constant-passes, register-passes, choice-passes, copy-passes, two-passes, one-passes, kindOfCell}
+use Rattle.circuit.proofs.Passes.{
+  BitBelow,
+  Passes,
+  not-passes,
+  and-passes,
+  constant-passes,
+  register-passes,
+  choice-passes,
+  copy-passes,
+  two-passes,
+  one-passes,
+  kindOfCell,
+}
 use Rattle.circuit.proofs.PassPieces.{HasKind, AllWords, words-up, words-append, word-at, rise-pass}
 
 module _ (kinds : ℕ → ℕ) (w given count : ℕ) where

@@ -4,8 +4,7 @@ use mathlib.Core.Path.{_≡_, sym, _∙_}
 use mathlib.Core.List.{List, _∷_, _++_}
 use native.Mathlib.Omega.{arith}
 use lib.ListN.{length, length-append}
-use Rattle.meaning.specs.Choices.{at}
-use Rattle.meaning.specs.Terms.{count, Term}
+use Rattle.meaning.specs.Terms.{Term}
 use Rattle.meaning.specs.Counts.{ins}
 use Rattle.meaning.proofs.Typed.{Typed, leaf-typed, seq-typed, par-typed, ite-typed, rec-typed}
 use Rattle.circuit.specs.Cells.{Cell, andCell, orCell}
@@ -13,10 +12,38 @@ use Rattle.circuit.specs.Pieces.{_after_, Block, Emitter, wiresFrom, kee
 use Rattle.circuit.specs.Blocks.{iteBlock, recBlock, emit}
 use Rattle.circuit.specs.Compiling.{inputCells, front, mainBlock, wholeCells}
 use Rattle.circuit.proofs.Lengths.{wires-length, kept-length, choices-length, registers-length, inputs-length}
-use Rattle.circuit.proofs.Places.{BranchPlaces, branchPlaces, branchCells, LoopPlaces, loopPlaces, Each, each-split, each-join, Branches, branch-split, branch-join}
+use Rattle.circuit.proofs.Places.{
+  BranchPlaces,
+  branchPlaces,
+  branchCells,
+  LoopPlaces,
+  loopPlaces,
+  Each,
+  each-split,
+  each-join,
+  Branches,
+  branch-split,
+  branch-join,
+}
 use Rattle.circuit.proofs.Sized.{Gives, gives}
 use Rattle.circuit.proofs.Passes.{BitBelow, Passes, load-passes, not-passes, and-passes, or-passes, low-passes, high-passes}
-use Rattle.circuit.proofs.PassPieces.{HasKind, AllWords, words-up, word-at, kept-words, choice-words, register-words, input-words, keeps-pass, registers-pass, choices-pass, inputs-pass, gate-bits, gates-pass, ending-pass}
+use Rattle.circuit.proofs.PassPieces.{
+  HasKind,
+  AllWords,
+  words-up,
+  word-at,
+  kept-words,
+  choice-words,
+  register-words,
+  input-words,
+  keeps-pass,
+  registers-pass,
+  choices-pass,
+  inputs-pass,
+  gate-bits,
+  gates-pass,
+  ending-pass,
+}
 use Rattle.circuit.proofs.PassBlocks.{Fine, Passing, leaf-passing, seq-passing, par-passing}
 
 -- Where a test with its branches ends.
@@ -51,8 +78,8 @@ module _ (kinds : ℕ → ℕ) (w given count : ℕ) where
         record {
           keeps-fine = keeps-pass kinds w given count xs b s h a (ks .on-keeps) (omega arith);
           e-fine = x;
-          gates-fine = gates-pass kinds w given count (P .p) (P .E) (x .done-bit) (word-at kinds (P .E .outs) 0 (P .p) (omega arith) (x .out-words))
-              (ks .on-gates) (omega arith);
+          gates-fine = gates-pass kinds w given count (P .p) (P .E) (x .done-bit)
+              (word-at kinds (P .E .outs) 0 (P .p) (omega arith) (x .out-words)) (ks .on-gates) (omega arith);
           test-bit = gb .1;
           f-fine = ff (7 after P .p) (5 after P .p) (P .ks) kq (omega arith, gb .3)
               (words-up kinds (P .ks) (P .n) (7 after P .p) (omega arith) kw) (ks .on-f) (omega arith);
@@ -78,8 +105,8 @@ module _ (kinds : ℕ → ℕ) (w given count : ℕ) where
         let y : P .F .done < P .q = B .f-fine .done-bit .0 in
         ((omega arith, B .e-fine .done-bit .1), (omega arith, B .f-fine .done-bit .1), B .g-fine .done-bit)
 
-  ite-passing : (e f g : Emitter) (i o : ℕ) → Passing kinds w given count e i → Gives e i 1 → Passing kinds w given count f i → Gives f i o →
-      Passing kinds w given count g i → Gives g i o → Passing kinds w given count (iteBlock e f g) i
+  ite-passing : (e f g : Emitter) (i o : ℕ) → Passing kinds w given count e i → Gives e i 1 → Passing kinds w given count f i →
+      Gives f i o → Passing kinds w given count g i → Gives g i o → Passing kinds w given count (iteBlock e f g) i
   ite-passing e f g i o fe oe ff of fg og b s xs q h a ks l =
       let P : BranchPlaces = branchPlaces e f g b s xs in
       let cs : List Cell = choices (3 after P .p) (P .F .outs) (P .G .outs) in
@@ -169,12 +196,14 @@ module _ (kinds : ℕ → ℕ) (w given count : ℕ) where
   emitted-passing (par-typed {f = f} {g = g} {i = i} a b l tf tg) =
       par-passing kinds w given count (emit f) (emit g) i (emitted-passing tf) (emitted-passing tg)
   emitted-passing (ite-typed {e = e} {f = f} {g = g} {i = i} {o = o} te tf tg) =
-      ite-passing (emit e) (emit f) (emit g) i o (emitted-passing te) (gives te) (emitted-passing tf) (gives tf) (emitted-passing tg) (gives tg)
+      ite-passing (emit e) (emit f) (emit g) i o (emitted-passing te) (gives te) (emitted-passing tf) (gives tf) (emitted-passing tg)
+      (gives tg)
   emitted-passing (rec-typed {e = e} {f = f} {g = g} {i = i} te tf tg) =
       rec-passing (emit e) (emit f) (emit g) i (emitted-passing te) (gives te) (emitted-passing tf) (emitted-passing tg) (gives tg)
 
   -- The whole circuit, with what its main block is.
-  module _ (T : Term) (o : ℕ) (ty : Typed w T (ins T) o) (few : ins T ≤ given) (ks : Each (HasKind kinds) 0 (wholeCells T)) (l : length (wholeCells T) ≤ count) where
+  module _ (T : Term) (o : ℕ) (ty : Typed w T (ins T) o) (few : ins T ≤ given) (ks : Each (HasKind kinds) 0 (wholeCells T))
+      (l : length (wholeCells T) ≤ count) where
     abbrev M : Block
     M = mainBlock T
 
@@ -205,8 +234,7 @@ module _ (kinds : ℕ → ℕ) (w given count : ℕ) where
         let k3 : kinds (3 after i) ≡ 5 = kf .1 .1 .0 in
         let k4 : kinds (4 after i) ≡ 2 = kf .1 .1 .1 .0 in
         let d : M .done < 6 after i + length (M .cells) = main-fine .done-bit .0 in
-        let len = whole-length in
-        (
+        let len = whole-length in (
           load-passes,
           each-join (Passes w given count kinds) (inputCells 0 i) behind 1 (1 after i) (omega (arith, inputs-length i 0))
               (inputs-pass kinds w given count i 1 0 (omega arith)) (

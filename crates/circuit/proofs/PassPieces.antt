@@ -5,12 +5,23 @@ use mathlib.Core.List.{List, [], _∷_, _++_}
 use native.Mathlib.Omega.{arith}
 use lib.ListN.{length}
 use Rattle.meaning.specs.Choices.{at}
-use Rattle.meaning.specs.Terms.{count}
 use Rattle.circuit.specs.Cells.{Cell, notCell, andCell, nonzeroCell}
 use Rattle.circuit.specs.Pieces.{_after_, Block, wiresFrom, rise, keeps, kept, choices, registers, gates, ending}
 use Rattle.circuit.specs.Compiling.{inputCells}
 use Rattle.circuit.proofs.Places.{Each, each-join}
-use Rattle.circuit.proofs.Passes.{BitBelow, WordBelow, Passes, not-passes, and-passes, high-passes, nonzero-passes, input-passes, register-passes, choice-passes, kindOfCell}
+use Rattle.circuit.proofs.Passes.{
+  BitBelow,
+  WordBelow,
+  Passes,
+  not-passes,
+  and-passes,
+  high-passes,
+  nonzero-passes,
+  input-passes,
+  register-passes,
+  choice-passes,
+  kindOfCell,
+}
 
 -- `kinds` tells the kind of the cell that drives a wire.
 module _ (kinds : ℕ → ℕ) where
@@ -67,8 +78,7 @@ module _ (kinds : ℕ → ℕ) where
     keeps-pass [] p s h a k l = tt
     keeps-pass (x ∷ xs) p s h a k l =
         let e = k .0 in
-        let f = k .1 .0 in
-        (
+        let f = k .1 .0 in (
           register-passes (1 after p) (omega arith, omega arith),
           (
             choice-passes s x p (omega arith, h .1) (omega arith, a .0 .1) (omega arith, omega arith),
@@ -96,8 +106,7 @@ module _ (kinds : ℕ → ℕ) where
     pub rise-pass : (p d : ℕ) → BitBelow kinds p d → Each HasKind p (rise p d) → 3 after p ≤ count → AllPass p (rise p d)
     rise-pass p d h k l =
         let k0 = k .0 in
-        let k1 = k .1 .0 in
-        (
+        let k1 = k .1 .0 in (
           high-passes d (omega arith, h .1),
           (not-passes p (omega arith, omega arith), (and-passes d (1 after p) (omega arith, h .1) (omega arith, omega arith), tt)),
         )
@@ -120,8 +129,7 @@ module _ (kinds : ℕ → ℕ) where
         each-join (Passes w given count kinds) (rise p (E .done))
         (nonzeroCell (at (E .outs) 0) ∷ notCell (3 after p) ∷ andCell (2 after p) (3 after p) ∷ andCell (2 after p) (4 after p) ∷ [])
         p (3 after p) (omega arith)
-        (rise-pass p (E .done) d (k .0, (k .1 .0, (k .1 .1 .0, tt))) (omega arith))
-        (
+        (rise-pass p (E .done) d (k .0, (k .1 .0, (k .1 .1 .0, tt))) (omega arith)) (
           nonzero-passes (at (E .outs) 0) (omega arith, o .1),
           (
             not-passes (3 after p) (omega arith, g .1),
@@ -143,8 +151,7 @@ module _ (kinds : ℕ → ℕ) where
         each-join (Passes w given count kinds) (rise r (G .done))
         (andCell (E .done) (F .done) ∷ andCell (3 after r) (G .done) ∷ notCell (2 after r) ∷ andCell (4 after r) (5 after r) ∷ [])
         r (3 after r) (omega arith)
-        (rise-pass r (G .done) g (k .0, (k .1 .0, (k2, tt))) (omega arith))
-        (
+        (rise-pass r (G .done) g (k .0, (k .1 .0, (k2, tt))) (omega arith)) (
           and-passes (E .done) (F .done) (omega arith, e .1) (omega arith, f .1),
           (
             and-passes (3 after r) (G .done) (omega arith, omega arith) (omega arith, g .1),

@@ -6,7 +6,7 @@ use native.Mathlib.Omega.{arith}
 use Rattle.meaning.specs.Words.{Words}
 use Rattle.meaning.specs.Terms.{Term, rec}
 use Rattle.meaning.specs.Published.{Runs, last-runs, more-runs, Lasts, test-lasts, last-lasts, body-lasts, feed-lasts, more-lasts}
-use Rattle.meaning.proofs.Runs.{positive, once}
+use Rattle.meaning.proofs.Runs.{positive}
 use Rattle.circuit.specs.Promise.{Low}
 use Rattle.circuit.proofs.Streams.{Bits, Wires, low-part}
 use Rattle.circuit.proofs.Behaves.{Starts, BehavesAs}
@@ -46,8 +46,7 @@ module _ {w : ℕ} {e f g : Term} {s : Bits} {x : Wires} {d : Bits} (L : Loop w 
       let i1 : 1 ≤ i = positive q in
       let M = run-test L t v a c m y refl (low-part s l (suc t) (suc m) (omega arith) (omega arith)) r in
       let z = while-f L t v a m y M h (i - 1) o (omega arith) (low-part s l (suc m) o (omega arith) (omega arith)) in
-      let k = L .B .F .ends m i o v ws (f-starts (L .B) (M .tested) h) (omega arith) (z .started) q in
-      (
+      let k = L .B .F .ends m i o v ws (f-starts (L .B) (M .tested) h) (omega arith) (z .started) q in (
         record { e-rests = z .e-rests; f-idle = k .0; g-idle = z .g-rests .idle; g-seen = z .g-rests .seen },
         z .g-rests .once,
         k .1,

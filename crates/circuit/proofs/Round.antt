@@ -8,7 +8,7 @@ use Rattle.meaning.specs.Words.{Words}
 use Rattle.meaning.specs.Terms.{Term}
 use Rattle.meaning.specs.Cycles.{holds}
 use Rattle.meaning.specs.Published.{Runs, Lasts}
-use Rattle.meaning.proofs.Runs.{positive, once}
+use Rattle.meaning.proofs.Runs.{positive}
 use Rattle.meaning.proofs.Lasts.{before, down}
 use Rattle.circuit.specs.Promise.{Low}
 use Rattle.circuit.proofs.Streams.{Bits, Wires, or-true, low-none, low-more, low-part, register, rise-low, rise-high, kept-word}

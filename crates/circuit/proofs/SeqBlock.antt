@@ -71,8 +71,7 @@ module _ {w : ℕ} {f g : Term} (s df p r dg d : Bits) (x yf yg : Wires)
       let k1 : 1 ≤ k = positive q' in
       let z = hand t c m v v' a refl (low-part s l (suc t) (suc m) (omega arith) (omega arith)) q in
       let sl : Low s m e = low-part s l m e (omega (arith, positive q)) (omega arith) in
-      let y = G .ends m k e v' ws (z .g-starts) (omega arith) (after-low F D m e (z .f-idle) sl) q' in
-      (
+      let y = G .ends m k e v' ws (z .g-starts) (omega arith) (after-low F D m e (z .f-idle) sl) q' in (
         record {
           f-idle = stay F m e (omega arith) (z .f-idle) sl .0;
           g-idle = y .0;

@@ -11,7 +11,15 @@ use Rattle.circuit.specs.Cells.{Cell, stride, andCell}
 use Rattle.circuit.specs.Pieces.{_after_, Emitter, wiresFrom, choices}
 use Rattle.circuit.specs.Blocks.{seqBlock, parBlock, iteBlock, recBlock, emit}
 use Rattle.circuit.specs.Compiling.{mainBlock, wholeCells, netlistOf}
-use Rattle.circuit.proofs.Lengths.{wires-length, kept-length, keeps-length, choices-length, registers-length, inputs-length, numbers-length}
+use Rattle.circuit.proofs.Lengths.{
+  wires-length,
+  kept-length,
+  keeps-length,
+  choices-length,
+  registers-length,
+  inputs-length,
+  numbers-length,
+}
 use Rattle.circuit.proofs.Places.{PairPlaces, seqPlaces, parPlaces, BranchPlaces, branchPlaces, branchCells, LoopPlaces, loopPlaces}
 
 -- On i input wires an emitter gives o output wires, and n cells.

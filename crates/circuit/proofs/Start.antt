@@ -70,18 +70,17 @@ module _ {w : ℕ} {T : Term} (load d start : Bits) (x y : Wires) (begun : (t : 
   -- A run that lasts past k cycles: done is low, and nothing begins up to the cycle after.
   lasting : (t : ℕ) → RunStarts t → (k e : ℕ) → e ≡ suc (t + k) → Lasts w T (x t) k → Low d t e × Low start (suc t) (suc e)
   lasting t a zero e p q =
-      let low : d t ≡ false = B .busy t 0 t (x t) a (omega arith) (low-none start (suc t) (suc t) (omega arith)) q in
-      (
+      let low : d t ≡ false = B .busy t 0 t (x t) a (omega arith) (low-none start (suc t) (suc t) (omega arith)) q in (
         low-more d t t e (omega arith) (low-none d t t (omega arith)) low,
         low-more start (suc t) e (suc e) refl (low-none start (suc t) e (omega arith)) (none-starts t e (omega arith) low),
       )
   lasting t a (suc k) e p q =
       let m : ℕ = suc (t + k) in
       let ih = lasting t a k m refl (down q k (omega arith)) in
-      let low : d m ≡ false = B .busy t (suc k) m (x t) a (omega arith) (ih .1) q in
-      (
+      let low : d m ≡ false = B .busy t (suc k) m (x t) a (omega arith) (ih .1) q in (
         low-more d t m e (omega arith) (ih .0) low,
-        low-more start (suc t) e (suc e) refl (low-part start (ih .1) (suc t) e (omega arith) (omega arith)) (none-starts m e (omega arith) low),
+        low-more start (suc t) e (suc e) refl (low-part start (ih .1) (suc t) e (omega arith) (omega arith))
+            (none-starts m e (omega arith) low),
       )
 
   promise-lasts : (t n : ℕ) → begins load d t ≡ true → evaluate w T n (x t) ≡ unfinished → Low d t (suc (t + n))

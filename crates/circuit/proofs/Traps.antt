@@ -12,7 +12,22 @@ use Rattle.meaning.specs.Terms.{Term, leaf, seq, ite, rec}
 use Rattle.meaning.specs.Checks.{firstRefusal}
 use Rattle.meaning.specs.Cycles.{evaluate}
 use Rattle.meaning.proofs.Tests.{clash}
-use Rattle.circuit.specs.Cells.{Cell, cell, numbersOf, portsOf, loadCell, notCell, andCell, orCell, lowRegister, highRegister, inputCell, wordRegister, choiceCell, copyCell}
+use Rattle.circuit.specs.Cells.{
+  Cell,
+  cell,
+  numbersOf,
+  portsOf,
+  loadCell,
+  notCell,
+  andCell,
+  orCell,
+  lowRegister,
+  highRegister,
+  inputCell,
+  wordRegister,
+  choiceCell,
+  copyCell,
+}
 use Rattle.circuit.specs.Netlists.{cellRefusal, netlistVerdict}
 use Rattle.circuit.specs.Compiling.{wholeCells}
 use Rattle.circuit.specs.Clock.{wires}

@@ -1,5 +1,5 @@
--- Theorem: the promise leaves no choice. Whatever keeps it, under the same load and inputs, shows the same done in every cycle, and the same
--- words from the end of a first run on, wherever done is high. Assumes nothing.
+-- Theorem: the promise leaves no choice. Whatever keeps it, under the same load and inputs, shows the same done in every cycle, and the
+-- same words from the end of a first run on, wherever done is high. Assumes nothing.
 use Prim.Native.Nat.{ℕ, zero, suc, _+_, _-_, _≤_, _<_}
 use mathlib.Core.Path.{_≡_, refl, sym, _∙_}
 use mathlib.Core.Bool.{Bool, true, false}

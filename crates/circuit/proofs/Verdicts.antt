@@ -28,8 +28,7 @@ unfolding firstRefusal
 none-refused number zero k v h = ((λ j l u. absurd (omega arith)), h)
 none-refused number (suc n) k v h =
     let a = went-on _ _ _ _ h in
-    let r = none-refused number n (suc k) v (a .1) in
-    (
+    let r = none-refused number n (suc k) v (a .1) in (
       (λ j l u. elim (split k j) [
         | inl b ↦ r .0 j b (omega arith)
         | inr b ↦ (let q : j ≡ k = omega arith in rw q (eqb-true _ _ (a .0)))

@@ -57,7 +57,8 @@ module _ (S : Run) where
   whole-keeps T o ty q h =
       let i : ℕ = ins T in
       let M : Block = mainBlock T in
-      let h0 = each-split (Obeys S) (inputCells 0 i) (front i (M .done) ++ M .cells) 1 (1 after i) (omega (arith, inputs-length i 0)) (h .1) in
+      let il : length (inputCells 0 i) ≡ i = inputs-length i 0 in
+      let h0 = each-split (Obeys S) (inputCells 0 i) (front i (M .done) ++ M .cells) 1 (1 after i) (omega arith) (h .1) in
       let h1 = each-split (Obeys S) (front i (M .done)) (M .cells) (1 after i) (6 after i) (omega arith) (h0 .1) in
       let loads : (t : ℕ) → bitOf S 0 t ≡ S .load t = λ t. cc (h .0 t, bit-num (S .load t)) in
       let given : wordsOf S (wiresFrom 1 i) ≡ S .inputs = fun-ext (λ t. inputs-law i 1 0 t (omega (arith, q t)) (h0 .0)) in

@@ -16,7 +16,20 @@ use Rattle.circuit.specs.Cells.{Cell, notCell, andCell, orCell, lowRegis
 use Rattle.circuit.specs.Pieces.{_after_, Emitter, wiresFrom, rise, choices, registers, ending}
 use Rattle.circuit.specs.Blocks.{operationCell, leafBlock, seqBlock, parBlock, iteBlock, recBlock, emit}
 use Rattle.circuit.proofs.Lengths.{wires-length, kept-length, choices-length, registers-length}
-use Rattle.circuit.proofs.Places.{PairPlaces, seqPlaces, parPlaces, BranchPlaces, branchPlaces, branchCells, LoopPlaces, loopPlaces, Each, each-split, Branches, branch-split}
+use Rattle.circuit.proofs.Places.{
+  PairPlaces,
+  seqPlaces,
+  parPlaces,
+  BranchPlaces,
+  branchPlaces,
+  branchCells,
+  LoopPlaces,
+  loopPlaces,
+  Each,
+  each-split,
+  Branches,
+  branch-split,
+}
 use Rattle.circuit.proofs.Sized.{Gives, gives}
 use Rattle.circuit.proofs.Behaves.{BehavesAs}
 use Rattle.circuit.proofs.LeafBlock.{leaf-behaves}
@@ -25,7 +38,23 @@ use Rattle.circuit.proofs.ParBlock.{par-behaves}
 use Rattle.circuit.proofs.Branching.{Branching}
 use Rattle.circuit.proofs.IteBlock.{ite-behaves}
 use Rattle.circuit.proofs.RecBlock.{rec-behaves}
-use Rattle.circuit.proofs.Equations.{Run, pick-nil, pick-cons, bitOf, wordsOf, heldAt, Obeys, not-law, and-law, or-law, nonzero-law, rise-law, keep-law, choice-law, register-law}
+use Rattle.circuit.proofs.Equations.{
+  Run,
+  pick-nil,
+  pick-cons,
+  bitOf,
+  wordsOf,
+  heldAt,
+  Obeys,
+  not-law,
+  and-law,
+  or-law,
+  nonzero-law,
+  rise-law,
+  keep-law,
+  choice-law,
+  register-law,
+}
 
 -- Reading wires: the word at a place, and of two lists one after the other.
 at-map : (read : ℕ → ℕ) (xs : List ℕ) (j : ℕ) → j < length xs → at (map read xs) j ≡ read (at xs j)
