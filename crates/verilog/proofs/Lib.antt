@@ -1,2 +1,5 @@
 -- What is shown of the definitions.
 pub mod Cases
+pub mod Placing
+pub mod Digits
+pub mod Spells

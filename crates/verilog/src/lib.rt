@@ -1,5 +1,6 @@
 // A netlist as Verilog text in lent memory, and lists of decimal numbers read from text.
 // Document 01: "The Verilog text".
+mod pieces;
 
 // The writer's answer: the text's length, or a refusal.
 pub enum Written {
