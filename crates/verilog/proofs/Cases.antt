@@ -14,7 +14,7 @@ use Rattle.circuit.specs.Netlists.{cellRefusal, netlistVerdict}
 use Rattle.circuit.specs.Simulated.{inputsGiven}
 use Rattle.circuit.specs.Compiling.{netlistOf}
 use Rattle.verilog.specs.Spelling.{bytes, digitsWithin, digits, rows, spelled}
-use Rattle.verilog.specs.Lines.{declaration, clockLine}
+use Rattle.verilog.specs.Lines.{declaration, operationLine, clockLine}
 use Rattle.verilog.specs.Texts.{textOf}
 use Rattle.verilog.specs.Writing.{outputsFit, portsFit, writeVerdict, writtenOf, writtenNumbers}
 use Rattle.verilog.specs.Numbers.{Result, numbers, notNumbers, readFrom, numbersIn}
@@ -55,7 +55,7 @@ example =
     "endmodule\n" ∷ [])
 
 complement-text : textOf 8 (netlistOf (mainOf complementTable)) 1 1 7 (only 8) ≡ example
-unfolding nodeOf below digitsWithin digits rows spelled declaration clockLine textOf
+unfolding nodeOf below digitsWithin digits rows spelled declaration operationLine clockLine textOf
 complement-text = refl
 
 complement-length : length example ≡ 485
@@ -110,7 +110,7 @@ everyLine =
     "endmodule\n" ∷ [])
 
 every-text : textOf 1 everyKind 2 2 6 (padded 16 (22 ∷ 1 ∷ [])) ≡ everyLine
-unfolding digitsWithin digits rows spelled declaration clockLine textOf
+unfolding digitsWithin digits rows spelled declaration operationLine clockLine textOf
 every-text = refl
 
 -- The largest number printed.
@@ -143,7 +143,7 @@ calls-answer : map (answers everyKind)
     (0 ∷ 0 ∷ 890 ∷ []) ∷ (20 ∷ 0 ∷ 0 ∷ []) ∷ (1 ∷ 0 ∷ 0 ∷ []) ∷
     (19 ∷ 0 ∷ 0 ∷ []) ∷ (19 ∷ 0 ∷ 0 ∷ []) ∷ (19 ∷ 0 ∷ 0 ∷ []) ∷ (19 ∷ 0 ∷ 0 ∷ []) ∷ (19 ∷ 0 ∷ 0 ∷ []) ∷
     (19 ∷ 0 ∷ 0 ∷ []) ∷ (19 ∷ 0 ∷ 0 ∷ []) ∷ (19 ∷ 0 ∷ 0 ∷ []) ∷ (19 ∷ 0 ∷ 0 ∷ []) ∷ (19 ∷ 0 ∷ 0 ∷ []) ∷ []
-unfolding digitsWithin digits rows spelled declaration clockLine textOf portsOf firstRefusal cellRefusal netlistVerdict inputsGiven
+unfolding digitsWithin digits rows spelled declaration operationLine clockLine textOf portsOf firstRefusal cellRefusal netlistVerdict inputsGiven
     outputsFit portsFit writeVerdict writtenOf
 calls-answer = refl
 

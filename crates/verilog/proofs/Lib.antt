@@ -3,3 +3,5 @@ pub mod Cases
 pub mod Placing
 pub mod Digits
 pub mod Spells
+pub mod Unlisted
+pub mod Fitting

@@ -7,7 +7,22 @@ use mathlib.Core.Bool.{Bool, true, false}
 use lib.Dec.{eqb}
 use Rattle.meaning.specs.Choices.{pick, or}
 
--- The declaration of a cell, kind by kind: bits, then words, whose range is written at every width.
+-- The declaration of a cell that computes, kind by kind. A word's range is written at every width.
+unfoldable pub operationLine : ℕ → String
+operationLine k =
+    pick (eqb k 13) "  wire [T:0] wN = wX + wY;\n"
+    (pick (eqb k 14) "  wire [T:0] wN = wX - wY;\n"
+    (pick (eqb k 15) "  wire [T:0] wN = wX & wY;\n"
+    (pick (eqb k 16) "  wire [T:0] wN = wX | wY;\n"
+    (pick (eqb k 17) "  wire [T:0] wN = wX ^ wY;\n"
+    (pick (eqb k 18) "  wire [T:0] wN = wX == wY;\n"
+    (pick (eqb k 19) "  wire [T:0] wN = wX < wY;\n"
+    (pick (eqb k 20) "  wire [T:0] wN = ~wX;\n"
+    (pick (eqb k 21) "  wire [T:0] wN = wX << 1;\n"
+    (pick (eqb k 22) "  wire [T:0] wN = wX >> 1;\n"
+    "")))))))))
+
+-- The declaration of any cell: bits, then words.
 unfoldable pub declaration : ℕ → String
 declaration k =
     pick (eqb k 0) "  wire wN = load;\n"
@@ -22,21 +37,14 @@ declaration k =
     (pick (eqb k 10) "  reg [T:0] wN = 0;\n"
     (pick (eqb k 11) "  wire [T:0] wN = wX ? wY : wZ;\n"
     (pick (eqb k 12) "  wire [T:0] wN = wX;\n"
-    (pick (eqb k 13) "  wire [T:0] wN = wX + wY;\n"
-    (pick (eqb k 14) "  wire [T:0] wN = wX - wY;\n"
-    (pick (eqb k 15) "  wire [T:0] wN = wX & wY;\n"
-    (pick (eqb k 16) "  wire [T:0] wN = wX | wY;\n"
-    (pick (eqb k 17) "  wire [T:0] wN = wX ^ wY;\n"
-    (pick (eqb k 18) "  wire [T:0] wN = wX == wY;\n"
-    (pick (eqb k 19) "  wire [T:0] wN = wX < wY;\n"
-    (pick (eqb k 20) "  wire [T:0] wN = ~wX;\n"
-    (pick (eqb k 21) "  wire [T:0] wN = wX << 1;\n"
-    (pick (eqb k 22) "  wire [T:0] wN = wX >> 1;\n"
-    "")))))))))))))))))))))
+    (operationLine k))))))))))))
 
 -- The clock line of a register, kinds 4, 5 and 10; other cells have none.
+abbrev pub register : ℕ → Bool
+register k = or (eqb k 4) (or (eqb k 5) (eqb k 10))
+
 unfoldable pub clockLine : ℕ → String
-clockLine k = pick (or (eqb k 4) (or (eqb k 5) (eqb k 10))) "  always @(posedge clk) wN <= wX;\n" ""
+clockLine k = pick (register k) "  always @(posedge clk) wN <= wX;\n" ""
 
 -- A cell's line: in the first pass over the cells its declaration, in the second its clock line.
 abbrev pub cellLine : Bool → ℕ → String

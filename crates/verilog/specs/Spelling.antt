@@ -1,6 +1,6 @@
 -- Spelling: text as a list of bytes, numbers in decimal, and templates with blanks. Definitions only.
 -- Document 01: "The Verilog text". Read after: meaning's `Choices`. Assumes nothing.
-use Prim.Native.Nat.{ℕ, zero, suc, _+_, _-_, _/_, _%_}
+use Prim.Native.Nat.{ℕ, zero, suc, _+_, _/_, _%_}
 use Prim.Native.Char.{code}
 use Prim.Native.String.{String, [] as none, _∷_ as _and_}
 use mathlib.Core.Path.{_≡_}
@@ -47,7 +47,7 @@ spelled b c =
     (pick (eqb c (code "Y")) (digits (b .y))
     (pick (eqb c (code "Z")) (digits (b .z))
     (pick (eqb c (code "W")) (digits (b .width))
-    (pick (eqb c (code "T")) (digits (b .width - 1))
+    (pick (eqb c (code "T")) (digits (b .top))
     (c ∷ []))))))
 
 -- A template with its blanks filled in.

@@ -57,6 +57,10 @@ textAfter w net i o d outs buffer =
     (textOf w net i o d outs ++ drop (length (textOf w net i o d outs)) buffer)
     (λ n p. buffer)
 
+-- What the writer answers to a refusal of the netlist; an accepted one is never passed on.
+abbrev pub passedOn : Verdict → Written
+passedOn v = onVerdict v (written.Length 0) written.Refused
+
 -- The answer as three numbers: refusal number, place, length.
 abbrev pub writtenNumbers : Written → List ℕ
 writtenNumbers (written.Length n) = 0 ∷ 0 ∷ n ∷ []

@@ -42,7 +42,7 @@ fn digit(value: u32) -> u8
 
 // Writes what a template's byte stands for.
 pub fn spell(text: &mut [u8], at: usize, byte: u8, blanks: Blanks) -> usize
-    requires { ⌜ (at + 16 < 2 ^ 40) × (0 < blanks .width) ⌝ }
+    requires { ⌜ at + 16 < 2 ^ 40 ⌝ }
     ensures { λ r. ⌜ Wrote (now (text .entry)) at (spelled blanks byte) r (now (text .exit)) ⌝ }
     ensures { λ r. ⌜ r ≤ at + 10 ⌝ }
 {
@@ -52,14 +52,14 @@ pub fn spell(text: &mut [u8], at: usize, byte: u8, blanks: Blanks) -> usize
         b'Y' => number(text, at, blanks.y),
         b'Z' => number(text, at, blanks.z),
         b'W' => number(text, at, blanks.width),
-        b'T' => number(text, at, blanks.width - 1),
+        b'T' => number(text, at, blanks.top),
         _ => put(text, at, byte),
     }
 }
 
 // Writes a template with its blanks filled in.
 pub fn fill(text: &mut [u8], at: usize, template: &[u8], blanks: Blanks) -> usize
-    requires { ⌜ (at < 2 ^ 32) × (length (now template) ≤ 64) × (0 < blanks .width) ⌝ }
+    requires { ⌜ (at < 2 ^ 32) × (length (now template) ≤ 64) ⌝ }
     ensures { λ r. ⌜ Wrote (now (text .entry)) at (filled blanks (now (template .entry))) r (now (text .exit)) ⌝ }
     ensures { λ r. ⌜ r ≤ at + 640 ⌝ }
 {

@@ -3,6 +3,7 @@ use Prim.Native.Nat.{_-_}
 use native.Mathlib.Omega.{arith}
 use borrow.Author.Needs.{needs}
 use Rattle.verilog.specs.Spelling.{spelled}
+use Rattle.verilog.specs.Texts.{blanks}
 use Rattle.verilog.proofs.Spells.{itself}
 use Rattle.verilog.proofs.pieces.spell.Statement.{statement}
 use Rattle.verilog.proofs.pieces.spell.Tie as tie
@@ -21,9 +22,6 @@ number-requires-4 c κs = search needs
 
 number-requires-5 : tie.Need-number-requires-5
 number-requires-5 c κs = search needs
-
-sub-number : tie.Need-sub-number
-sub-number c = search needs
 
 number-requires-6 : tie.Need-number-requires-6
 number-requires-6 c κs = search needs
@@ -71,7 +69,7 @@ same-length-6 c = search needs
 
 returns-6 : tie.Need-returns-6
 unfolding spelled
-returns-6 c = (rw (c .before .before .before .before .before .match .keys6) (c .before .before .number6 .ensures .0), c .before .before .number6 .ensures .1)
+returns-6 c = (rw (c .before .before .before .before .match .keys6) (c .before .before .number6 .ensures .0), c .before .before .number6 .ensures .1)
 
 same-length-7 : tie.Need-same-length-7
 same-length-7 c = search needs
@@ -93,7 +91,6 @@ spell-spec =
     number-requires-3
     number-requires-4
     number-requires-5
-    sub-number
     number-requires-6
     put-requires
     same-length
