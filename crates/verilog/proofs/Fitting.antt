@@ -6,27 +6,36 @@ use mathlib.Core.List.{List}
 use native.Mathlib.Numerals.{add-one}
 use lib.Dec.{eqb, ltb}
 use Rattle.meaning.specs.Choices.{pick, and, at}
-use Rattle.circuit.specs.Cells.{cellNumber, kindAt, wordKind}
+use Rattle.circuit.specs.Cells.{cellNumber, kindAt, cellCount, wordKind}
 use Rattle.circuit.specs.Simulated.{inputsGiven}
 use Rattle.verilog.specs.Writing.{wireOf, outputsFit}
 
 -- A kind that is none stands for a wire that is not there.
-pub drives : (kinds : ℕ → Bool) (there : Bool) (k : ℕ) → kinds 7 ≡ false → kinds (pick there k 7) ≡ and there (kinds k)
-drives kinds true k e = refl
-drives kinds false k e = e
+by-driver : (kinds : ℕ → Bool) (there : Bool) (k : ℕ) → kinds 7 ≡ false → kinds (pick there k 7) ≡ and there (kinds k)
+by-driver kinds true k e = refl
+by-driver kinds false k e = e
 
+pub drives : (kinds : ℕ → Bool) (net : List ℕ) (n : ℕ) → kinds 7 ≡ false →
+    kinds (pick (ltb n (cellCount net)) (kindAt net n) 7) ≡ wireOf kinds net n
+drives kinds net n e = by-driver kinds (ltb n (cellCount net)) (kindAt net n) e
+
+-- One more input cell, or output, after those that fit; after one that does not, none does.
 module _ (net : List ℕ) (m n : ℕ) where
-  abbrev pub inputFits : Bool
-  inputFits = pick (eqb (kindAt net n) 8) (ltb (cellNumber net n 1) m) true
-
-  pub inputs-more : (fits : Bool) → fits ≡ inputsGiven net m n → and fits inputFits ≡ inputsGiven net m (n + 1)
+  pub inputs-more : inputsGiven net m n ≡ true →
+      pick (eqb (kindAt net n) 8) (ltb (cellNumber net n 1) m) true ≡ inputsGiven net m (n + 1)
   unfolding inputsGiven
-  inputs-more fits e = rw (add-one n, e) refl
+  inputs-more e = rw (add-one n, e) refl
+
+  pub inputs-stop : inputsGiven net m n ≡ false → false ≡ inputsGiven net m (n + 1)
+  unfolding inputsGiven
+  inputs-stop e = rw (add-one n, e) refl
 
 module _ (net : List ℕ) (o : ℕ) (outs : List ℕ) (n : ℕ) where
-  abbrev pub outputFits : Bool
-  outputFits = pick (ltb n o) (wireOf wordKind net (at outs n)) (eqb (at outs n) 0)
-
-  pub outputs-more : (fits : Bool) → fits ≡ outputsFit net o outs n → and fits outputFits ≡ outputsFit net o outs (n + 1)
+  pub outputs-more : outputsFit net o outs n ≡ true →
+      pick (ltb n o) (wireOf wordKind net (at outs n)) (eqb (at outs n) 0) ≡ outputsFit net o outs (n + 1)
   unfolding outputsFit
-  outputs-more fits e = rw (add-one n, e) refl
+  outputs-more e = rw (add-one n, e) refl
+
+  pub outputs-stop : outputsFit net o outs n ≡ false → false ≡ outputsFit net o outs (n + 1)
+  unfolding outputsFit
+  outputs-stop e = rw (add-one n, e) refl

@@ -5,3 +5,4 @@ pub mod Digits
 pub mod Spells
 pub mod Unlisted
 pub mod Fitting
+pub mod Answering

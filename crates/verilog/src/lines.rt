@@ -51,7 +51,14 @@ fn cell_blanks(width: u32, netlist: &[u32], n: usize) -> Blanks
 }
 
 // Writes a template once for each of count ports.
-fn row(text: &mut [u8], at: usize, template: &[u8], width: u32, count: u32, outs: &[u32; 16]) -> usize
+fn row(
+    text: &mut [u8],
+    at: usize,
+    template: &[u8],
+    width: u32,
+    count: u32,
+    outs: &[u32; 16],
+) -> usize
     requires { ⌜ (at < 2 ^ 31) × (length (now template) ≤ 64) × (0 < width) × (count ≤ 16) ⌝ }
     ensures { λ r. ⌜ Wrote (now (text .entry)) at (eachOf width (now (outs .entry)) (now (template .entry)) count) r (now (text .exit)) ⌝ }
     ensures { λ r. ⌜ r ≤ at + 10240 ⌝ }
@@ -147,7 +154,14 @@ fn cell_lines(text: &mut [u8], at: usize, clocked: bool, width: u32, netlist: &[
 }
 
 // Writes a line of cell n.
-fn cell_line(text: &mut [u8], at: usize, clocked: bool, width: u32, netlist: &[u32], n: usize) -> usize
+fn cell_line(
+    text: &mut [u8],
+    at: usize,
+    clocked: bool,
+    width: u32,
+    netlist: &[u32],
+    n: usize,
+) -> usize
     requires { ⌜ (at < 2 ^ 32) × (0 < width) × (n < cellCount (now netlist)) × (n < 2 ^ 32) ⌝ }
     ensures { λ r. ⌜ Wrote (now (text .entry)) at (cellText clocked width (now (netlist .entry)) n) r (now (text .exit)) ⌝ }
     ensures { λ r. ⌜ r ≤ at + 640 ⌝ }
@@ -194,13 +208,26 @@ fn ending(text: &mut [u8], at: usize, width: u32, o: u32, done: u32, outs: &[u32
     ensures { λ r. ⌜ Wrote (now (text .entry)) at (endingOf width o done (now (outs .entry))) r (now (text .exit)) ⌝ }
     ensures { λ r. ⌜ r ≤ at + 11520 ⌝ }
 {
-    let at = fill(text, at, b"  assign done = wX;\n", port_blanks(width, 0, done));
+    let at = fill(
+        text,
+        at,
+        b"  assign done = wX;\n",
+        port_blanks(width, 0, done),
+    );
     let at = row(text, at, b"  assign outN = wX;\n", width, o, outs);
     fill(text, at, b"endmodule\n", port_blanks(width, 0, 0))
 }
 
 // Writes the whole text.
-pub fn whole(text: &mut [u8], width: u32, netlist: &[u32], i: u32, o: u32, done: u32, outs: &[u32; 16]) -> usize
+pub fn whole(
+    text: &mut [u8],
+    width: u32,
+    netlist: &[u32],
+    i: u32,
+    o: u32,
+    done: u32,
+    outs: &[u32; 16],
+) -> usize
     requires { ⌜ (0 < width) × (cellCount (now netlist) ≤ 4096) × (i ≤ 16) × (o ≤ 16) ⌝ }
     ensures { λ r. ⌜ Wrote (now (text .entry)) 0 (textOf width (now (netlist .entry)) i o done (now (outs .entry))) r (now (text .exit)) ⌝ }
     ensures { λ r. ⌜ r < 2 ^ 32 ⌝ }

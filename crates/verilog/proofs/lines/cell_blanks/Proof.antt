@@ -1,5 +1,4 @@
 -- Proof: `lines::cell_blanks` meets its contract. Assumes nothing.
-use Prim.Native.Nat.{_-_}
 use mathlib.Core.Path.{refl}
 use borrow.Author.Needs.{needs}
 use Rattle.verilog.proofs.lines.cell_blanks.Statement.{statement}

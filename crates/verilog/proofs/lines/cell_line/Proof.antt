@@ -1,5 +1,4 @@
 -- Proof: `lines::cell_line` meets its contract. Assumes nothing.
-use Prim.Native.Nat.{_-_}
 use borrow.Author.Needs.{needs}
 use Rattle.verilog.proofs.lines.cell_line.Statement.{statement}
 use Rattle.verilog.proofs.lines.cell_line.Tie as tie
@@ -20,7 +19,7 @@ same-length : tie.Need-same-length
 same-length c = search needs
 
 returns : tie.Need-returns
-returns c = 
+returns c =
     let p = c .before .before .clock .ensures in
     let q = c .before .before .before .before in
     (rw (q .if1 .taken, ← q .before .before .kind .ensures, ← q .before .cell-blanks .ensures) (p .0), p .1)
@@ -29,7 +28,7 @@ same-length-2 : tie.Need-same-length-2
 same-length-2 c = search needs
 
 returns-2 : tie.Need-returns-2
-returns-2 c = 
+returns-2 c =
     let p = c .before .before .declare .ensures in
     let q = c .before .before .before .before in
     (rw (q .if1 .left, ← q .before .before .kind .ensures, ← q .before .cell-blanks .ensures) (p .0), p .1)

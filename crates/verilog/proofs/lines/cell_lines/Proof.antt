@@ -12,7 +12,7 @@ use Rattle.verilog.proofs.lines.cell_lines.Statement.{statement}
 use Rattle.verilog.proofs.lines.cell_lines.Tie as tie
 
 abbrev Inv-loop : tie.InvT-loop
-Inv-loop text₀ at clocked width netlist next₀ n₀ count text next n = 
+Inv-loop text₀ at clocked width netlist next₀ n₀ count text next n =
     (n ≤ count) × (next ≤ at + n * 640) × Wrote text₀ at (rows (cellText clocked width netlist) n) next text
 
 abbrev μ-loop : tie.MeasureT-loop
@@ -34,7 +34,7 @@ loop-less : tie.Need-loop-less Inv-loop μ-loop
 loop-less c = search needs
 
 loop-again : tie.Need-loop-again Inv-loop μ-loop
-loop-again c = 
+loop-again c =
     let L = c .before .before .before .before .before .loop in
     let p = c .before .before .cell-line .ensures in
     (omega arith, omega (arith, p .1, L .inv .1), row-more _ (L .inv .2) (p .0))
@@ -43,7 +43,7 @@ same-length : tie.Need-same-length Inv-loop μ-loop
 same-length c = wrote-same-length (c .before .loop .inv .2)
 
 returns : tie.Need-returns Inv-loop μ-loop
-returns c = 
+returns c =
     let L = c .before .loop in
     let q = c .before .before in
     let s = c .before .before .before .before .before in

@@ -1,5 +1,4 @@
 -- Proof: `lines::clock` meets its contract: a register has its line, other cells have none. Assumes nothing.
-use Prim.Native.Nat.{_-_}
 use native.Mathlib.Omega.{arith}
 use borrow.Author.Needs.{needs}
 use Rattle.verilog.specs.Lines.{clockLine}
@@ -21,14 +20,14 @@ same-length c = search needs
 
 returns : tie.Need-returns
 unfolding clockLine
-returns c = 
+returns c =
     let e = c .before .before .before .before .before .before .is-register .ensures in
     let t = c .before .before .before .before .before .if1 .taken in
     (rw (← e, t) (c .before .before .fill .ensures .0), c .before .before .fill .ensures .1)
 
 returns-2 : tie.Need-returns-2
 unfolding clockLine
-returns-2 c = 
+returns-2 c =
     let e = c .before .is-register .ensures in
     (rw (← e, c .if1 .left) (no-rows _ _ _), omega arith)
 

@@ -1,5 +1,4 @@
 -- Proof: `lines::declare` meets its contract: each kind below 13 has its template, the others are operations. Assumes nothing.
-use Prim.Native.Nat.{_-_}
 use borrow.Author.Needs.{needs}
 use Rattle.verilog.specs.Lines.{declaration}
 use Rattle.verilog.proofs.Unlisted.{past-twelve}
@@ -169,7 +168,7 @@ same-length-13 : tie.Need-same-length-13
 same-length-13 c = search needs
 
 returns-13 : tie.Need-returns-13
-returns-13 c = 
+returns-13 c =
     let a = c .before .before .before .before .before .before .args in
     let n = c .before .before .before .before .match .rest in
     let e = past-twelve (a .kind) (n .0 .0 .0 .0 .0 .0 .0 .0 .0 .0 .0 .1) (n .0 .0 .0 .0 .0 .0 .0 .0 .0 .0 .1) (n .0 .0 .0 .0 .0 .0 .0 .0 .0 .1) (n .0 .0 .0 .0 .0 .0 .0 .0 .1) (n .0 .0 .0 .0 .0 .0 .0 .1) (n .0 .0 .0 .0 .0 .0 .1) (n .0 .0 .0 .0 .0 .1) (n .0 .0 .0 .0 .1) (n .0 .0 .0 .1) (n .0 .0 .1) (n .0 .1) (n .1) in

@@ -1,5 +1,4 @@
 -- Proof: `lines::ending` meets its contract: three pieces, one after the other. Assumes nothing.
-use Prim.Native.Nat.{_-_}
 use native.Mathlib.Omega.{arith}
 use borrow.Author.Needs.{needs}
 use Rattle.meaning.specs.Choices.{at}
@@ -35,7 +34,7 @@ same-length : tie.Need-same-length
 same-length c = search needs
 
 returns : tie.Need-returns
-returns c = 
+returns c =
     let f1 = c .before .before .before .before .before .before .before .before .before .before .before .before .before .fill .ensures in
     let r1 = c .before .before .before .before .before .before .before .before .row .ensures in
     let f2 = c .before .before .fill2 .ensures in

@@ -1,5 +1,4 @@
 -- Proof: `lines::is_register` meets its contract. Assumes nothing.
-use Prim.Native.Nat.{_-_}
 use mathlib.Core.Path.{refl}
 use borrow.Author.Tests.{eq-eqb, ne-eqb}
 use Rattle.verilog.proofs.lines.is_register.Statement.{statement}

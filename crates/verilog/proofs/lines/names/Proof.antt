@@ -1,5 +1,4 @@
 -- Proof: `lines::names` meets its contract: five pieces, one after the other. Assumes nothing.
-use Prim.Native.Nat.{_-_}
 use native.Mathlib.Omega.{arith}
 use borrow.Author.Needs.{needs}
 use Rattle.meaning.specs.Choices.{at}
@@ -44,15 +43,16 @@ same-length : tie.Need-same-length
 same-length c = search needs
 
 returns : tie.Need-returns
-returns c = 
+returns c =
     let p = c .before .before .before .before .before .before .before .before .before .before .before .before .before .before .before .before .before .before .before .before .before .before .before .before .before .port-blanks .ensures in
     let f1 = c .before .before .before .before .before .before .before .before .before .before .before .before .before .before .before .before .before .before .before .before .before .before .fill .ensures in
     let r1 = c .before .before .before .before .before .before .before .before .before .before .before .before .before .before .before .before .before .row .ensures in
     let f2 = c .before .before .before .before .before .before .before .before .before .before .before .before .fill2 .ensures in
     let r2 = c .before .before .before .before .before .before .before .row2 .ensures in
-    let f3 = c .before .before .fill3 .ensures in
-    (then (then (then (then (rw p at (f1 .0)) (r1 .0)) (rw p at (f2 .0))) (r2 .0)) (rw p at (f3 .0)),
-      omega (arith, f1 .1, r1 .1, f2 .1, r2 .1, f3 .1))
+    let f3 = c .before .before .fill3 .ensures in (
+      then (then (then (then (rw p at (f1 .0)) (r1 .0)) (rw p at (f2 .0))) (r2 .0)) (rw p at (f3 .0)),
+      omega (arith, f1 .1, r1 .1, f2 .1, r2 .1, f3 .1),
+    )
 
 pub names-spec : {M : Type 1} → statement M
 names-spec =

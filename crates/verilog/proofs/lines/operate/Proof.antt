@@ -1,5 +1,4 @@
 -- Proof: `lines::operate` meets its contract: each operation has its template, other kinds have none. Assumes nothing.
-use Prim.Native.Nat.{_-_}
 use native.Mathlib.Omega.{arith}
 use borrow.Author.Needs.{needs}
 use Rattle.verilog.specs.Lines.{operationLine}
@@ -139,7 +138,7 @@ unfolding operationLine
 returns-10 c = (rw (c .before .before .before .before .before .match .keys10) (c .before .before .fill10 .ensures .0), c .before .before .fill10 .ensures .1)
 
 returns-11 : tie.Need-returns-11
-returns-11 c = 
+returns-11 c =
     let a = c .before .before .args in
     let n = c .match .rest in
     let e = no-operation (a .kind) (n .0 .0 .0 .0 .0 .0 .0 .0 .0 .1) (n .0 .0 .0 .0 .0 .0 .0 .0 .1) (n .0 .0 .0 .0 .0 .0 .0 .1) (n .0 .0 .0 .0 .0 .0 .1) (n .0 .0 .0 .0 .0 .1) (n .0 .0 .0 .0 .1) (n .0 .0 .0 .1) (n .0 .0 .1) (n .0 .1) (n .1) in

@@ -42,7 +42,7 @@ loop-less : tie.Need-loop-less Inv-loop μ-loop
 loop-less c = search needs
 
 loop-again : tie.Need-loop-again Inv-loop μ-loop
-loop-again c = 
+loop-again c =
     let L = c .before .before .before .before .before .before .before .loop in
     let f = c .before .before .fill .ensures in
     (omega arith, omega (arith, f .1, L .inv .1), row-more _ (L .inv .2) (rw (c .before .before .before .port-blanks .ensures) at (f .0)))
@@ -51,7 +51,7 @@ same-length : tie.Need-same-length Inv-loop μ-loop
 same-length c = wrote-same-length (c .before .loop .inv .2)
 
 returns : tie.Need-returns Inv-loop μ-loop
-returns c = 
+returns c =
     let L = c .before .loop in
     let s = c .before .before .before .before in
     let e : L .j ≡ s .args .count = omega (arith, L .inv .0, c .loop-test .left) in

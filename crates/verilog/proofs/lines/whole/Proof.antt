@@ -1,5 +1,4 @@
 -- Proof: `lines::whole` meets its contract: five parts, one after the other. Assumes nothing.
-use Prim.Native.Nat.{_-_}
 use native.Mathlib.Omega.{arith}
 use borrow.Author.Needs.{needs}
 use Rattle.verilog.specs.Texts.{names, ending, textOf}
@@ -27,7 +26,7 @@ same-length c = search needs
 
 returns : tie.Need-returns
 unfolding textOf
-returns c = 
+returns c =
     let p = c .before .before .before .before .before .before .before .before .before .before .before .before .before .before .before .before .before .before .names .ensures in
     let q = c .before .before .before .before .before .before .before .before .before .before .before .before .before .before .port-lines .ensures in
     let d = c .before .before .before .before .before .before .before .before .before .before .cell-lines .ensures in

@@ -7,6 +7,7 @@ use lib.ListN.{length, getD}
 use borrow.Author.Needs.{needs}
 use Rattle.meaning.specs.Choices.{at}
 use Rattle.verilog.specs.Spelling.{rows, spelled, Wrote}
+use Rattle.verilog.specs.Texts.{blanks}
 use Rattle.verilog.proofs.Placing.{no-rows, row-more, same-length as wrote-same-length}
 use Rattle.verilog.proofs.pieces.fill.Statement.{statement}
 use Rattle.verilog.proofs.pieces.fill.Tie as tie

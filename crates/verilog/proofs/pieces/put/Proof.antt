@@ -3,6 +3,7 @@ use mathlib.Core.Path.{ap, _∙_}
 use mathlib.Core.Logic.{⊎-elim}
 use lib.ListN.{length, length-set}
 use borrow.Author.Needs.{needs}
+use Rattle.meaning.specs.Choices.{at}
 use Rattle.verilog.proofs.Placing.{byte-in, byte-out}
 use Rattle.verilog.proofs.pieces.put.Statement.{statement}
 use Rattle.verilog.proofs.pieces.put.Tie as tie

@@ -1,5 +1,4 @@
 -- Proof: `pieces::spell` meets its contract: each capital gives the number that it stands for. Assumes nothing.
-use Prim.Native.Nat.{_-_}
 use native.Mathlib.Omega.{arith}
 use borrow.Author.Needs.{needs}
 use Rattle.verilog.specs.Spelling.{spelled}

@@ -1,15 +1,14 @@
+-- Proof: `ports::few_words` meets its contract. Assumes nothing.
+use mathlib.Core.Path.{refl}
+use borrow.Author.Tests.{le-leb, lt-leb}
 use Rattle.verilog.proofs.ports.few_words.Statement.{statement}
 use Rattle.verilog.proofs.ports.few_words.Tie as tie
-use Rattle.verilog.proofs.ports.few_words.Reads as reads
-use Rattle.verilog.proofs.ports.few_words.Lts as lts
 
--- src/ports.rt:97:1
 returns : tie.Need-returns
-returns c = ?
+returns c = rw (le-leb 1 _ (c .if1 .taken)) refl
 
--- src/ports.rt:97:1
 returns-2 : tie.Need-returns-2
-returns-2 c = ?
+returns-2 c = rw (lt-leb 1 _ (c .if1 .left)) refl
 
 pub few-words-spec : {M : Type 1} → statement M
 few-words-spec = tie.close (tie.spec returns returns-2)

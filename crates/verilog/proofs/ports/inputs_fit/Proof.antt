@@ -1,51 +1,57 @@
+-- Proof: `ports::inputs_fit` meets its contract.
+-- Invariant: `fits` says of the cells passed what the definition does. Measure: the cells left. Assumes nothing.
+use Prim.Native.Nat.{_-_, _≤_}
+use mathlib.Core.Path.{_≡_, refl, sym, _∙_}
+use native.Mathlib.Omega.{arith}
+use borrow.Author.Needs.{needs}
+use Rattle.meaning.specs.Choices.{at}
+use Rattle.circuit.specs.Simulated.{inputsGiven}
+use Rattle.verilog.proofs.Fitting.{inputs-more, inputs-stop}
 use Rattle.verilog.proofs.ports.inputs_fit.Statement.{statement}
 use Rattle.verilog.proofs.ports.inputs_fit.Tie as tie
-use Rattle.verilog.proofs.ports.inputs_fit.Reads as reads
-use Rattle.verilog.proofs.ports.inputs_fit.Lts as lts
-use Rattle.cells.proofs.count.Reads as count-reads
-use Rattle.verilog.proofs.ports.input_fits.Reads as input-fits-reads
 
 abbrev Inv-loop : tie.InvT-loop
-Inv-loop netlist i count fits₀ n₀ fits n = ?
+Inv-loop netlist i count fits₀ n₀ fits n = (n ≤ count) × (fits ≡ inputsGiven netlist i n)
 
 abbrev μ-loop : tie.MeasureT-loop
-μ-loop netlist i count fits₀ n₀ fits n = ?
+μ-loop netlist i count fits₀ n₀ fits n = count - n
 
--- src/ports.rt:59:9
 count-requires : tie.Need-count-requires Inv-loop μ-loop
-count-requires c κs = ?
+count-requires c κs = search needs
 
--- src/ports.rt:62:5
 loop-holds : tie.Need-loop-holds Inv-loop μ-loop
-loop-holds c = ?
+unfolding inputsGiven
+loop-holds c = (omega arith, refl)
 
--- src/ports.rt:64:9
 add-n : tie.Need-add-n Inv-loop μ-loop
-add-n c = ?
+add-n c = search needs
 
--- src/ports.rt:65:24
 input-fits-requires : tie.Need-input-fits-requires Inv-loop μ-loop
-input-fits-requires c κs = ?
+input-fits-requires c κs = search needs
 
--- src/ports.rt:62:5
 loop-less : tie.Need-loop-less Inv-loop μ-loop
-loop-less c = ?
+loop-less c = search needs
 
--- src/ports.rt:62:5
 loop-again : tie.Need-loop-again Inv-loop μ-loop
-loop-again c = ?
+loop-again c =
+    let L = c .before .before .before .loop in
+    let a = c .before .before .before .before .before .before .args in
+    (omega arith, c .input-fits .ensures ∙ inputs-more (a .netlist .now) (a .i) (L .n) (sym (L .inv .1) ∙ c .before .if1 .taken))
 
--- src/ports.rt:62:5
 loop-less-2 : tie.Need-loop-less-2 Inv-loop μ-loop
-loop-less-2 c = ?
+loop-less-2 c = search needs
 
--- src/ports.rt:62:5
 loop-again-2 : tie.Need-loop-again-2 Inv-loop μ-loop
-loop-again-2 c = ?
+loop-again-2 c =
+    let L = c .before .before .loop in
+    let a = c .before .before .before .before .before .args in
+    (omega arith, c .if1 .left ∙ inputs-stop (a .netlist .now) (a .i) (L .n) (sym (L .inv .1) ∙ c .if1 .left))
 
--- src/ports.rt:56:1
 returns : tie.Need-returns Inv-loop μ-loop
-returns c = ?
+returns c =
+    let L = c .before .loop in
+    let e : L .n ≡ c .before .before .count .result = omega (arith, L .inv .0, c .loop-test .left) in
+    rw (e, c .before .before .count .ensures) at (L .inv .1)
 
 pub inputs-fit-spec : {M : Type 1} → statement M
 inputs-fit-spec =

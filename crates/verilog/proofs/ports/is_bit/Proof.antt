@@ -1,22 +1,21 @@
+-- Proof: `ports::is_bit` meets its contract: a wire that is not there has no kind. Assumes nothing.
+use mathlib.Core.Path.{refl, ap, _∙_}
 use borrow.Author.Needs.{needs}
+use Rattle.circuit.specs.Cells.{bitKind}
+use Rattle.verilog.proofs.Fitting.{drives}
 use Rattle.verilog.proofs.ports.is_bit.Statement.{statement}
 use Rattle.verilog.proofs.ports.is_bit.Tie as tie
-use Rattle.verilog.proofs.ports.is_bit.Reads as reads
-use Rattle.verilog.proofs.ports.is_bit.Lts as lts
-use Rattle.cells.proofs.kinds.drives_bit.Reads as drives-bit-reads
-use Rattle.verilog.proofs.ports.driver.Reads as driver-reads
 
--- src/ports.rt:31:30
 driver-requires : tie.Need-driver-requires
 driver-requires c κs = search needs
 
--- src/ports.rt:31:5
 drives-bit-requires : tie.Need-drives-bit-requires
 drives-bit-requires c κs = search needs
 
--- src/ports.rt:28:1
 returns : tie.Need-returns
-returns c = ?
+returns c =
+    let a = c .before .before .before .args in
+    c .drives-bit .ensures ∙ ap bitKind (c .before .driver .ensures) ∙ drives bitKind (a .netlist .now) (a .wire) refl
 
 pub is-bit-spec : {M : Type 1} → statement M
 is-bit-spec = tie.close (tie.spec driver-requires drives-bit-requires returns)

@@ -1,22 +1,21 @@
+-- Proof: `ports::is_word` meets its contract: a wire that is not there has no kind. Assumes nothing.
+use mathlib.Core.Path.{refl, ap, _∙_}
 use borrow.Author.Needs.{needs}
+use Rattle.circuit.specs.Cells.{wordKind}
+use Rattle.verilog.proofs.Fitting.{drives}
 use Rattle.verilog.proofs.ports.is_word.Statement.{statement}
 use Rattle.verilog.proofs.ports.is_word.Tie as tie
-use Rattle.verilog.proofs.ports.is_word.Reads as reads
-use Rattle.verilog.proofs.ports.is_word.Lts as lts
-use Rattle.cells.proofs.kinds.drives_word.Reads as drives-word-reads
-use Rattle.verilog.proofs.ports.driver.Reads as driver-reads
 
--- src/ports.rt:38:31
 driver-requires : tie.Need-driver-requires
 driver-requires c κs = search needs
 
--- src/ports.rt:38:5
 drives-word-requires : tie.Need-drives-word-requires
 drives-word-requires c κs = search needs
 
--- src/ports.rt:35:1
 returns : tie.Need-returns
-returns c = ?
+returns c =
+    let a = c .before .before .before .args in
+    c .drives-word .ensures ∙ ap wordKind (c .before .driver .ensures) ∙ drives wordKind (a .netlist .now) (a .wire) refl
 
 pub is-word-spec : {M : Type 1} → statement M
 is-word-spec = tie.close (tie.spec driver-requires drives-word-requires returns)

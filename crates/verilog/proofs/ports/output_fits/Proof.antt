@@ -1,21 +1,18 @@
+-- Proof: `ports::output_fits` meets its contract. Assumes nothing.
+use mathlib.Core.Path.{refl, _∙_}
+use borrow.Author.Tests.{lt-ltb, le-ltb}
 use borrow.Author.Needs.{needs}
 use Rattle.verilog.proofs.ports.output_fits.Statement.{statement}
 use Rattle.verilog.proofs.ports.output_fits.Tie as tie
-use Rattle.verilog.proofs.ports.output_fits.Reads as reads
-use Rattle.verilog.proofs.ports.output_fits.Lts as lts
-use Rattle.verilog.proofs.ports.is_word.Reads as is-word-reads
 
--- src/ports.rt:75:9
 is-word-requires : tie.Need-is-word-requires
 is-word-requires c κs = search needs
 
--- src/ports.rt:71:1
 returns : tie.Need-returns
-returns c = ?
+returns c = c .is-word .ensures ∙ rw (lt-ltb _ _ (c .before .if1 .taken)) refl
 
--- src/ports.rt:71:1
 returns-2 : tie.Need-returns-2
-returns-2 c = ?
+returns-2 c = rw (le-ltb _ _ (c .if1 .left)) refl
 
 pub output-fits-spec : {M : Type 1} → statement M
 output-fits-spec = tie.close (tie.spec is-word-requires returns returns-2)

@@ -1,58 +1,63 @@
+-- Proof: `ports::outputs_fit` meets its contract.
+-- Invariant: `fits` says of the outputs passed what the definition does. Measure: the outputs left. Assumes nothing.
+use Prim.Native.Nat.{_-_, _≤_}
+use mathlib.Core.Path.{_≡_, refl, sym, _∙_}
+use native.Mathlib.Omega.{arith}
+use borrow.Author.Needs.{needs}
+use Rattle.meaning.specs.Choices.{at}
+use Rattle.verilog.specs.Writing.{outputsFit}
+use Rattle.verilog.proofs.Fitting.{outputs-more, outputs-stop}
 use Rattle.verilog.proofs.ports.outputs_fit.Statement.{statement}
 use Rattle.verilog.proofs.ports.outputs_fit.Tie as tie
-use Rattle.verilog.proofs.ports.outputs_fit.Reads as reads
-use Rattle.verilog.proofs.ports.outputs_fit.Lts as lts
-use Rattle.verilog.proofs.ports.output_fits.Reads as output-fits-reads
 
 abbrev Inv-loop : tie.InvT-loop
-Inv-loop netlist o outs fits₀ n₀ fits n = ?
+Inv-loop netlist o outs fits₀ n₀ fits n = (n ≤ 16) × (fits ≡ outputsFit netlist o outs n)
 
 abbrev μ-loop : tie.MeasureT-loop
-μ-loop netlist o outs fits₀ n₀ fits n = ?
+μ-loop netlist o outs fits₀ n₀ fits n = 16 - n
 
--- src/ports.rt:87:5
 loop-holds : tie.Need-loop-holds Inv-loop μ-loop
-loop-holds c = ?
+unfolding outputsFit
+loop-holds c = (omega arith, refl)
 
--- src/ports.rt:89:25
 cast-wire : tie.Need-cast-wire Inv-loop μ-loop
-cast-wire c = ?
+cast-wire c = search needs
 
--- src/ports.rt:89:20
 mul-wire : tie.Need-mul-wire Inv-loop μ-loop
-mul-wire c = ?
+mul-wire c = search needs
 
--- src/ports.rt:89:20
 element-copy-out-wire : tie.Need-element-copy-out-wire Inv-loop μ-loop
-element-copy-out-wire c = ?
+element-copy-out-wire c = search needs
 
--- src/ports.rt:90:9
 add-n : tie.Need-add-n Inv-loop μ-loop
-add-n c = ?
+add-n c = search needs
 
--- src/ports.rt:91:24
 output-fits-requires : tie.Need-output-fits-requires Inv-loop μ-loop
-output-fits-requires c κs = ?
+output-fits-requires c κs = search needs
 
--- src/ports.rt:87:5
 loop-less : tie.Need-loop-less Inv-loop μ-loop
-loop-less c = ?
+loop-less c = search needs
 
--- src/ports.rt:87:5
 loop-again : tie.Need-loop-again Inv-loop μ-loop
-loop-again c = ?
+loop-again c =
+    let L = c .before .before .before .before .loop in
+    let a = c .before .before .before .before .before .before .args in
+    (omega arith, c .output-fits .ensures ∙ outputs-more (a .netlist .now) (a .o) (a .outs .now) (L .n) (sym (L .inv .1) ∙ c .before .if1 .taken))
 
--- src/ports.rt:87:5
 loop-less-2 : tie.Need-loop-less-2 Inv-loop μ-loop
-loop-less-2 c = ?
+loop-less-2 c = search needs
 
--- src/ports.rt:87:5
 loop-again-2 : tie.Need-loop-again-2 Inv-loop μ-loop
-loop-again-2 c = ?
+loop-again-2 c =
+    let L = c .before .before .before .loop in
+    let a = c .before .before .before .before .before .args in
+    (omega arith, c .if1 .left ∙ outputs-stop (a .netlist .now) (a .o) (a .outs .now) (L .n) (sym (L .inv .1) ∙ c .if1 .left))
 
--- src/ports.rt:82:1
 returns : tie.Need-returns Inv-loop μ-loop
-returns c = ?
+returns c =
+    let L = c .before .loop in
+    let e : L .n ≡ 16 = omega (arith, L .inv .0, c .loop-test .left) in
+    rw e at (L .inv .1)
 
 pub outputs-fit-spec : {M : Type 1} → statement M
 outputs-fit-spec =
