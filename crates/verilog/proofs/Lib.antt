@@ -6,3 +6,5 @@ pub mod Spells
 pub mod Unlisted
 pub mod Fitting
 pub mod Answering
+pub mod ByteByByte
+pub mod Underway

@@ -1,7 +1,8 @@
 -- Numbers: which bytes are a list of decimal numbers, and which numbers they are. Definitions only.
 -- Document 01: "The Verilog text", first paragraph. Read after: `Spelling`. Assumes nothing.
-use Prim.Native.Nat.{ℕ, _+_, _*_, _-_, _^_}
+use Prim.Native.Nat.{ℕ, _+_, _*_, _-_, _^_, _≤_}
 use Prim.Native.Char.{code}
+use mathlib.Core.Path.{_≡_}
 use mathlib.Core.Bool.{Bool, true, false}
 use mathlib.Core.List.{List, [], _∷_, _++_}
 use lib.Dec.{eqb, ltb, leb}
@@ -24,22 +25,25 @@ pub record Progress : Type 0 where
   pub inside : Bool
   pub value : ℕ
 
+abbrev pub progress : List ℕ → Bool → ℕ → Progress
+progress ns i v = record { ended = ns; inside = i; value = v }
+
 abbrev pub begun : Progress
-begun = record { ended = []; inside = false; value = 0 }
+begun = progress [] false 0
 
 -- The numbers, with the one that a gap or the end of the text ends.
 abbrev pub closed : Progress → List ℕ
 closed p = pick (p .inside) (p .ended ++ (p .value ∷ [])) (p .ended)
 
 abbrev pub afterGap : Progress → Progress
-afterGap p = record { ended = closed p; inside = false; value = 0 }
+afterGap p = progress (closed p) false 0
 
 -- One digit more, in front of which the number counts tenfold.
 abbrev pub grown : ℕ → ℕ → ℕ
 grown v c = v * 10 + (c - code "0")
 
 abbrev pub afterDigit : ℕ → Progress → Progress
-afterDigit c p = record { ended = p .ended; inside = true; value = grown (p .value) c }
+afterDigit c p = progress (p .ended) true (grown (p .value) c)
 
 -- What a list of bytes is: numbers, or no list of numbers.
 pub data Result : Type 0 where
@@ -61,6 +65,11 @@ limited notNumbers = notNumbers
 
 unfoldable pub numbersIn : List ℕ → Result
 numbersIn l = pick (leb (length l) 16384) (limited (readFrom l begun)) notNumbers
+
+-- An array holds these numbers, as many as the count says; where they are too many for it, only the count does.
+pub record Holds (ns : List ℕ) (count : ℕ) (array : List ℕ) : Type 0 where
+  pub counted : count ≡ length ns
+  pub held : count ≤ 1025 → array ≡ padded 1025 ns
 
 -- The answer: the count and the numbers in an array of 1,025; no numbers where there is no list.
 abbrev pub listedAs : Result → Listed
