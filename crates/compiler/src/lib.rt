@@ -93,7 +93,8 @@ pub fn compile(width: u32, table: &[u32], netlist: &mut [u32]) -> Compiled
     let outs = facts.outs;
     let main = table.len() / 4 - 1;
     let cells = 6 + ins[main] + terms::size(table, &ins, &outs, main);
-    if netlist.len() < wide(cells) * 4 {
+    let last = wide(cells) * 4 - 1;
+    if netlist.len() <= last {
         return refused(10, 0);
     }
     whole(table, &ins, &outs, main, netlist)

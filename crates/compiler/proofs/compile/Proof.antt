@@ -77,11 +77,14 @@ add-cells-2 c =
 wide-requires : tie.Need-wide-requires
 wide-requires c κs = search needs
 
-mul-if1 : tie.Need-mul-if1
-mul-if1 c =
+mul-last : tie.Need-mul-last
+mul-last c =
     let told = c .before .before .before .before .before .before in
     let z = main-at told in
     omega (arith, c .wide .ensures, c .before .size .ensures)
+
+sub-last : tie.Need-sub-last
+sub-last c = search needs
 
 refused-requires : tie.Need-refused-requires
 refused-requires c κs = search needs
@@ -134,7 +137,8 @@ compile-spec =
     size-requires
     add-cells-2
     wide-requires
-    mul-if1
+    mul-last
+    sub-last
     refused-requires
     returns-2
     whole-requires
