@@ -47,7 +47,8 @@ module _ (word : Words → ℕ) (start limit : ℕ) (x : Words) where
       leaves-ended start _ 1 (word x ∷ []) _ array (ap (λ (n : ℕ). leafRun word n x) z) refl h
 
 -- What is known of a run that was left unfinished, and of one that ended.
-module _ (w : ℕ) (T : Term) (start limit : ℕ) (x : Words) (e : End) (array : Words) (l : Leaves (runFrom (evaluate w T) start limit x) e array) where
+module _ (w : ℕ) (T : Term) (start limit : ℕ) (x : Words) (e : End) (array : Words)
+    (l : Leaves (runFrom (evaluate w T) start limit x) e array) where
   pub was-unfinished : e ≡ Unfinished → evaluate w T (limit - start) x ≡ unfinished
   was-unfinished h = go (evaluate w T (limit - start) x) (l .end)
     where
@@ -64,7 +65,8 @@ pub record Gave (w : ℕ) (T : Term) (start limit : ℕ) (x : Words) (end : ℕ)
   pub within : end ≤ limit
   pub held : array ≡ padded 16 words
 
-module _ (w : ℕ) (T : Term) (start limit : ℕ) (x : Words) (e : End) (array : Words) (l : Leaves (runFrom (evaluate w T) start limit x) e array) where
+module _ (w : ℕ) (T : Term) (start limit : ℕ) (x : Words) (e : End) (array : Words)
+    (l : Leaves (runFrom (evaluate w T) start limit x) e array) where
   pub gave : (end : ℕ) → start ≤ limit → e ≡ Ended end → Gave w T start limit x end array
   gave end h q = go (evaluate w T (limit - start) x) refl
     where

@@ -1,11 +1,12 @@
-// The words that a run is given: whether they fit the main term, and how they go into an array of 16. Document 01: refusal 11.
+// The words that a run is given: whether they fit the main term, and how they go into an array of 16.
+// Document 01: refusal 11.
 ghost use mathlib.Core.Path.{_≡_};
 ghost use Prim.Native.Nat.{_≤_};
 ghost use lib.ListN.{length};
 ghost use Rattle.meaning.specs.Choices.{«padded»};
 ghost use Rattle.meaning.specs.Answers.{wordsFit};
 
-// As many words as are taken, each of the width.
+// 11: as many words as are taken, each of the width.
 pub fn fit(width: u32, taken: usize, input: &[u32]) -> bool
     requires { ⌜ width ≤ 32 ⌝ }
     ensures { λ r. ⌜ r ≡ wordsFit width taken (now (input .entry)) ⌝ }

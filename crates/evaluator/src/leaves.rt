@@ -1,4 +1,5 @@
-// What a term without operands does to the words, and what Par makes of its two sides. Document 01: "Term tables", "Cycles".
+// What a term without operands does to the words, and what Par makes of its two sides.
+// Document 01: "Term tables", "Cycles".
 use meaning::End;
 ghost use mathlib.Core.Path.{_≡_};
 ghost use Prim.Native.Nat.{_<_, _≤_, max};
@@ -21,7 +22,7 @@ fn word(width: u32, kind: u32, b: u32, x: &[u32; 16]) -> u32
     words::operate(width, kind, x[0], x[1])
 }
 
-// A leaf takes one cycle, if there is one left.
+// A leaf takes one cycle, if there is one left, and leaves its one word.
 pub fn leaf(width: u32, kind: u32, b: u32, words: &mut [u32; 16], start: u32, limit: u32) -> End
     requires { ⌜ (width ≤ 32) × (kind < 13 → (kind ≡ 9 → ⊥) → b < 16) × (start ≤ limit) ⌝ }
     ensures { λ r. ⌜ Leaves (runFrom (leafRun (leafWord width kind b)) start limit (now (words .entry))) r (now (words .exit)) ⌝ }
@@ -35,7 +36,7 @@ pub fn leaf(width: u32, kind: u32, b: u32, words: &mut [u32; 16], start: u32, li
     End::Ended(start + 1)
 }
 
-// After the first n words, those of the other side.
+// The words of the other side, after the first n.
 pub fn join(words: &mut [u32; 16], n: usize, others: &[u32; 16])
     requires { ⌜ (n ≤ 16) × (length (now words) ≡ 16) × (length (now others) ≡ 16) ⌝ }
     ensures { λ _. ⌜ now (words .exit) ≡ sideBySide (now (words .entry)) n (now (others .entry)) ⌝ }

@@ -1,6 +1,7 @@
-// The run of a term of an accepted table, on words that it changes in place: the term's inputs before, its outputs after.
-// `term` goes by the kind, and each combinator calls it back on its operands, whose numbers are lower. Cycles are counted from
-// the start of the whole run, up to the budget, so nothing is added that could wrap. Document 01: "Cycles".
+// The run of a term of an accepted table, on an array that holds the words: the term's inputs before
+// it, its outputs after it. `term` goes by the kind, and each combinator calls it back on its operands,
+// whose numbers are lower. Cycles are counted from the start of the whole run up to the budget, the
+// limit, so no sum of them can wrap. Document 01: "Cycles".
 use crate::leaves;
 use meaning::End;
 ghost use mathlib.Core.Path.{_≡_};
@@ -52,7 +53,7 @@ fn seq(
     term(width, table, given, g, words, at, limit)
 }
 
-// Par: f and g from the same start on the same words; the later end, and the words of f, then of g.
+// Par: f and g from the same start on the same words; the later end, and f's words, then g's.
 fn par(
     width: u32,
     table: &[u32],
@@ -81,7 +82,7 @@ fn par(
     End::Ended(leaves::later(c, d))
 }
 
-// Ite: e on a copy of the words, and from its end on the branch that e's word takes.
+// Ite: e on a copy of the words, and from its end on the branch that its word takes.
 fn ite(
     width: u32,
     table: &[u32],
@@ -97,18 +98,19 @@ fn ite(
     let e = terms::operand(table, k, 1);
     let f = terms::operand(table, k, 2);
     let g = terms::operand(table, k, 3);
-    let mut test = *words;
-    let tested = term(width, table, given, e, &mut test, start, limit);
-    let End::Ended(at) = tested else {
+    let mut choice = *words;
+    let chosen = term(width, table, given, e, &mut choice, start, limit);
+    let End::Ended(at) = chosen else {
         return End::Unfinished;
     };
-    if test[0] != 0 {
+    if choice[0] != 0 {
         return term(width, table, given, f, words, at, limit);
     }
     term(width, table, given, g, words, at, limit)
 }
 
-// Rec: rounds of e, each on a copy of the words, until its word is not zero, and then f; else g, and one cycle to feed its words back.
+// Rec: round by round, e on a copy of the words; where its word is not zero f ends the run, else g goes
+// on, and one cycle feeds its words back.
 fn rounds(
     width: u32,
     table: &[u32],

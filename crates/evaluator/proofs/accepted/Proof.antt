@@ -23,8 +23,11 @@ returns c =
 ran-requires : tie.Need-ran-requires
 ran-requires c κs =
     let m = c .before in
-    let s = m .before .before .before in
-    (s .pre .0, fit-few (s .pre .0) (s .args .taken) (s .args .input .now) (s .pre .1) (sym (m .fit .ensures) ∙ not-false (m .fit .result) (c .if1 .left)))
+    let s = m .before .before .before in (
+      s .pre .0,
+      fit-few (s .pre .0) (s .args .taken) (s .args .input .now) (s .pre .1)
+          (sym (m .fit .ensures) ∙ not-false (m .fit .result) (c .if1 .left)),
+    )
 
 returns-2 : tie.Need-returns-2
 returns-2 c =

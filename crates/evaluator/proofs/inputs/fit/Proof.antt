@@ -57,7 +57,8 @@ loop-again c =
     let s = l .before .before .before in
     let x = s .args .input .now in
     let i = l .loop .i in
-    let b : at x i < 2 ^ s .args .width = ltb-true _ _ (sym (c .before .fits2 .ensures) ∙ not-false (c .before .fits2 .result) (c .if2 .left)) in (
+    let b : at x i < 2 ^ s .args .width =
+    ltb-true _ _ (sym (c .before .fits2 .ensures) ∙ not-false (c .before .fits2 .result) (c .if2 .left)) in (
       omega arith,
       λ j h. elim (split j i) [
         | inl a ↦ l .loop .inv .1 j a
