@@ -4,3 +4,4 @@ pub mod Ports
 pub mod Refusing
 pub mod Passed
 pub mod Wires
+pub mod Unique

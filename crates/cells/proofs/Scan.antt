@@ -3,18 +3,15 @@
 use Prim.Native.Nat.{ℕ, zero, suc, _+_, _-_, _≤_, _<_}
 use mathlib.Core.Path.{_≡_, refl, sym, ap, _∙_}
 use mathlib.Core.Bool.{Bool, true, false}
-use mathlib.Core.Logic.{⊎-elim}
-use native.Mathlib.Nat.{eq-or-lt-of-le}
 use native.Mathlib.Numerals.{add-one}
 use native.Mathlib.Omega.{arith}
 use lib.Dec.{eqb}
-use borrow.Author.Tests.{eq-eqb, ne-eqb, eqb-true}
+use borrow.Author.Tests.{eq-eqb, ne-eqb}
 use Rattle.meaning.specs.declared.Verdict.{Verdict}
 use Rattle.meaning.specs.declared.Verdict.the-variants as verdict
 use Rattle.meaning.specs.Choices.{pick}
 use Rattle.meaning.specs.Checks.{firstRefusal}
 use Rattle.meaning.specs.Answers.{onVerdict}
-use Rattle.meaning.proofs.Tests.{by-test}
 
 -- One place more, by the number that it gives.
 module _ (number : ℕ → ℕ) (m k : ℕ) (follows : Verdict) where
@@ -59,16 +56,6 @@ module _ (number : ℕ → ℕ) (count : ℕ) (follows : Verdict) where
         within = omega arith;
         same = sym (passes number (count - suc n) n follows (sym e ∙ z)) ∙ left;
       })
-
--- A scan that accepts has passed every place.
-pub none-refused : (number : ℕ → ℕ) (m k : ℕ) → firstRefusal number m k verdict.Accepted ≡ verdict.Accepted →
-    (n : ℕ) → k ≤ n → n < k + m → number n ≡ 0
-unfolding firstRefusal
-none-refused number zero k a n l h = absurd (omega arith)
-none-refused number (suc m) k a n l h =
-    by-test (λ v. v ≡ verdict.Accepted → number n ≡ 0) (eqb (number k) 0) _ _
-    (λ z b. ⊎-elim (λ e. ap number (sym e) ∙ eqb-true _ _ z) (λ g. none-refused number m (suc k) b n g (omega arith)) (eq-or-lt-of-le l))
-    (λ z b. let f : _≡_ {A = ℕ} 0 1 = cc in absurd (omega arith)) a
 
 -- What follows a scan may be asked for afterwards.
 pub scan-then : (number : ℕ → ℕ) (m k : ℕ) (follows : Verdict) →

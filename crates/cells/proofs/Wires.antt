@@ -123,6 +123,8 @@ module _ (w : ℕ) (net : List ℕ) (n : ℕ) (P : Passed w net n) where
       (kindAt net n ≡ 4 → ⊥) → (kindAt net n ≡ 5 → ⊥) → (kindAt net n ≡ 6 → ⊥) → (kindAt net n ≡ 8 → ⊥) →
       (kindAt net n ≡ 9 → ⊥) → (kindAt net n ≡ 10 → ⊥) → (kindAt net n ≡ 11 → ⊥) → (kindAt net n ≡ 12 → ⊥) →
       13 ≤ kindAt net n
-  is-operation a b c d e f g h i j k l = either _ _ (P .known)
-      (λ t. let u = leb-true (kindAt net n) 6 t in let v : 7 ≤ kindAt net n = past 6 (past 5 (past 4 (past 3 (past 2 (past 1 (past 0 (omega arith) a) b) c) d) e) f) g in absurd (omega arith))
+  is-operation a b c d e f g h i j k l =
+      let six : 7 ≤ kindAt net n = past 6 (past 5 (past 4 (past 3 (past 2 (past 1 (past 0 (omega arith) a) b) c) d) e) f) g in
+      either _ _ (P .known)
+      (λ t. let u = leb-true (kindAt net n) 6 t in absurd (omega arith))
       (λ t. past 12 (past 11 (past 10 (past 9 (past 8 (leb-true 8 (kindAt net n) (both _ _ t .0)) h) i) j) k) l)

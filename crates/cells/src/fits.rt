@@ -1,4 +1,5 @@
-// The refusals 13 to 16 of one cell: three tests of a number by its port, each asked of x, y and z. Document 01: "Refusal numbers".
+// The refusals 13 to 16 of one cell: its kind, and three tests of a number by its port, each asked
+// of x, y and z. Document 01: "Refusal numbers".
 use crate::kinds;
 use circuit::Port;
 ghost use mathlib.Core.Path.{_≡_};
@@ -80,7 +81,8 @@ fn numbers_fit(width: u32, netlist: &[u32], n: usize) -> bool
 // 15 of all three numbers of cell n.
 fn wires_fit(netlist: &[u32], n: usize) -> bool
     requires { ⌜ n < cellCount (now netlist) ⌝ }
-    ensures { λ r. ⌜ r ≡ allPorts (wireFits n (cellCount (now (netlist .entry)))) (now (netlist .entry)) n ⌝ }
+    ensures { λ r. ⌜ r ≡ allPorts (wireFits n (cellCount (now (netlist .entry))))
+        (now (netlist .entry)) n ⌝ }
 {
     let ports = kinds::ports_of(crate::kind(netlist, n));
     let x = ports.x;
@@ -96,7 +98,8 @@ fn wires_fit(netlist: &[u32], n: usize) -> bool
 
 // 16 of all three numbers of cell n, whose wires are there.
 fn sorts_fit(netlist: &[u32], n: usize) -> bool
-    requires { ⌜ (n < cellCount (now netlist)) × (allPorts (wireFits n (cellCount (now netlist))) (now netlist) n ≡ true) ⌝ }
+    requires { ⌜ (n < cellCount (now netlist))
+        × (allPorts (wireFits n (cellCount (now netlist))) (now netlist) n ≡ true) ⌝ }
     ensures { λ r. ⌜ r ≡ allPorts (sortFits (now (netlist .entry))) (now (netlist .entry)) n ⌝ }
 {
     let ports = kinds::ports_of(crate::kind(netlist, n));

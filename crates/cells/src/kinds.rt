@@ -1,4 +1,5 @@
-// What the kinds of cells are: which drive bits, which words, and what their three numbers are for. Document 01: "Cells".
+// The kinds of cells: which drive bits, which words, and what their three numbers are for.
+// Document 01: "Cells".
 use circuit::Port;
 ghost use mathlib.Core.Path.{_≡_};
 ghost use Rattle.meaning.specs.Choices.{or};
@@ -56,7 +57,8 @@ fn two(x: Port, y: Port) -> Ports
 
 // The ports of a kind.
 pub fn ports_of(kind: u32) -> Ports
-    ensures { λ r. ⌜ (r .x ≡ portsOf kind .x) × (r .y ≡ portsOf kind .y) × (r .z ≡ portsOf kind .z) ⌝ }
+    ensures { λ r. ⌜ (r .x ≡ portsOf kind .x) × (r .y ≡ portsOf kind .y)
+        × (r .z ≡ portsOf kind .z) ⌝ }
 {
     match kind {
         0 => one(Port::Unused),

@@ -46,7 +46,8 @@ module _ (w : ℕ) (net : List ℕ) (words : Words) (room : ℕ) where
 
 -- A step.
 module _ (w : ℕ) (net earlier : List ℕ) (words : Words) (room : ℕ) where
-  pub step-netlist : (r : Verdict) → r ≡ netlistVerdict w net → (n p : ℕ) → r ≡ verdict.Refused n p → r ≡ stepVerdict w net earlier words room
+  pub step-netlist : (r : Verdict) → r ≡ netlistVerdict w net → (n p : ℕ) →
+      r ≡ verdict.Refused n p → r ≡ stepVerdict w net earlier words room
   unfolding stepVerdict
   step-netlist r e n p h = rw (sym e ∙ h) h
 
@@ -68,7 +69,8 @@ module _ (w : ℕ) (net earlier : List ℕ) (words : Words) (room : ℕ) where
         unfolding stepVerdict
         judged = rw (a, eq-eqb _ _ b, eq-eqb _ _ d)
 
-        pub step-wires : (r : Verdict) → r ≡ scan verdict.Accepted → (n p : ℕ) → r ≡ verdict.Refused n p → r ≡ stepVerdict w net earlier words room
+        pub step-wires : (r : Verdict) → r ≡ scan verdict.Accepted → (n p : ℕ) →
+            r ≡ verdict.Refused n p → r ≡ stepVerdict w net earlier words room
         step-wires r e n p h = rw (judged, scan-then (wireRefusal w net earlier) (cellCount net) 0 (inputsVerdict w net words), sym e ∙ h) h
 
         pub step-inputs : scan verdict.Accepted ≡ verdict.Accepted → inputsVerdict w net words ≡ stepVerdict w net earlier words room

@@ -3,3 +3,4 @@ pub mod Passing
 pub mod Inputs
 pub mod Judging
 pub mod Accepting
+pub mod Unique

@@ -1,15 +1,16 @@
-// The wires of a cycle of a checked netlist, lowest first. A cell reads lower wires of the same cycle; a register shows
-// its starting value in a fresh circuit, and afterwards its wire of the cycle before. Nothing is judged here.
-// One loop serves power-up and step, so that a cell costs one jump on its kind. Document 01: "The simulator".
+// The wires of a cycle of a checked netlist, lowest first. A cell reads lower wires of the same
+// cycle; a register shows its starting value in a fresh circuit, and afterwards its wire of the
+// cycle before. Nothing is judged here. One loop serves power-up and step, so that the compiler
+// folds all of it into one jump on the kind a cell. Document 01: "The simulator".
 ghost use mathlib.Core.Path.{_≡_};
 ghost use mathlib.Core.Bool.{false};
 ghost use mathlib.Core.List.{[]};
-ghost use Prim.Native.Nat.{_≤_, _<_};
+ghost use Prim.Native.Nat.{_<_};
 ghost use lib.ListN.{length, take};
 ghost use Rattle.meaning.specs.Choices.{and, or, not, num, «bit», at, pick};
-ghost use Rattle.circuit.specs.Cells.{stride, cellNumber, cellCount, cellAt, cellsOf, value};
+ghost use Rattle.circuit.specs.Cells.{cellNumber, cellCount, cellAt, cellsOf, value};
 ghost use Rattle.circuit.specs.Clock.{pass, powerUp, step};
-ghost use Rattle.simulator.specs.Ready.{Ready, Past, heldBy};
+ghost use Rattle.simulator.specs.Ready.{Ready, Past, Lower, lowerWire, heldBy};
 
 // A yes or no as a bit.
 fn bit(holds: bool) -> u32
@@ -18,29 +19,38 @@ fn bit(holds: bool) -> u32
     if holds { 1 } else { 0 }
 }
 
-fn neither(x: bool) -> bool
+// The other of yes and no.
+fn inverted(x: bool) -> bool
     ensures { λ r. ⌜ r ≡ not x ⌝ }
 {
     !x
 }
 
+// Yes where both are.
 fn both(x: bool, y: bool) -> bool
     ensures { λ r. ⌜ r ≡ and x y ⌝ }
 {
     x && y
 }
 
+// Yes where one is.
 fn either(x: bool, y: bool) -> bool
     ensures { λ r. ⌜ r ≡ or x y ⌝ }
 {
     x || y
 }
 
+// One word or the other.
+fn choice(first: bool, x: u32, y: u32) -> u32
+    ensures { λ r. ⌜ r ≡ pick first x y ⌝ }
+{
+    if first { x } else { y }
+}
+
 // The lower wire that number j of cell n names.
 fn lower(netlist: &[u32], n: usize, j: usize, wires: &[u32]) -> u32
-    requires { ⌜ (j < stride) × (n < cellCount (now netlist))
-        × (cellNumber (now netlist) n j < n) × (n ≤ length (now wires)) ⌝ }
-    ensures { λ r. ⌜ r ≡ at (take n (now (wires .entry))) (cellNumber (now (netlist .entry)) n j) ⌝ }
+    requires { ⌜ Lower (now netlist) n j (length (now wires)) ⌝ }
+    ensures { λ r. ⌜ r ≡ lowerWire (now (netlist .entry)) n j (now (wires .entry)) ⌝ }
 {
     let wire = cells::number(netlist, n, j) as usize;
     wires[wire]
@@ -48,18 +58,18 @@ fn lower(netlist: &[u32], n: usize, j: usize, wires: &[u32]) -> u32
 
 // Whether that wire is high; a word, whether it is not zero.
 fn high(netlist: &[u32], n: usize, j: usize, wires: &[u32]) -> bool
-    requires { ⌜ (j < stride) × (n < cellCount (now netlist))
-        × (cellNumber (now netlist) n j < n) × (n ≤ length (now wires)) ⌝ }
-    ensures { λ r. ⌜ r ≡ «bit» (at (take n (now (wires .entry))) (cellNumber (now (netlist .entry)) n j)) ⌝ }
+    requires { ⌜ Lower (now netlist) n j (length (now wires)) ⌝ }
+    ensures { λ r. ⌜ r ≡ «bit» (lowerWire (now (netlist .entry)) n j (now (wires .entry))) ⌝ }
 {
     lower(netlist, n, j, wires) != 0
 }
 
-// What a register at cell n shows: where it starts in a fresh circuit, else its wire of the cycle before.
+// What a register at cell n shows: where it starts, or its wire of the cycle before.
 fn register(fresh: bool, start: u32, netlist: &[u32], n: usize, before: &[u32]) -> u32
     requires { ⌜ (n < cellCount (now netlist))
         × (fresh ≡ false → cellNumber (now netlist) n 1 < length (now before)) ⌝ }
-    ensures { λ r. ⌜ r ≡ pick fresh start (at (now (before .entry)) (cellNumber (now (netlist .entry)) n 1)) ⌝ }
+    ensures { λ r. ⌜ r ≡ pick fresh start
+        (at (now (before .entry)) (cellNumber (now (netlist .entry)) n 1)) ⌝ }
 {
     if fresh {
         return start;
@@ -68,7 +78,7 @@ fn register(fresh: bool, start: u32, netlist: &[u32], n: usize, before: &[u32]) 
     before[wire]
 }
 
-// What cell n shows, whose lower wires stand in `wires`; `start` is where a register of a word starts.
+// What cell n shows, the wires below it being there; registers of words start with `start`.
 fn shows(
     width: u32,
     netlist: &[u32],
@@ -82,13 +92,14 @@ fn shows(
 ) -> u32
     requires { ⌜ (Ready width (now netlist) (length (now words)) (length (now wires)))
         × (Past fresh (now netlist) (now before)) × (n < cellCount (now netlist)) ⌝ }
-    ensures { λ r. ⌜ r ≡ value width load (now (words .entry)) (heldBy fresh start (now (before .entry)) n)
-        (at (take n (now (wires .entry)))) (cellAt (now (netlist .entry)) n) ⌝ }
+    ensures { λ r. ⌜ r ≡ value width load (now (words .entry))
+        (heldBy fresh start (now (before .entry)) n) (at (take n (now (wires .entry))))
+        (cellAt (now (netlist .entry)) n) ⌝ }
 {
     let kind = cells::kind(netlist, n);
     match kind {
         0 => bit(load),
-        1 => bit(neither(high(netlist, n, 1, wires))),
+        1 => bit(inverted(high(netlist, n, 1, wires))),
         2 => bit(both(high(netlist, n, 1, wires), high(netlist, n, 2, wires))),
         3 => bit(either(high(netlist, n, 1, wires), high(netlist, n, 2, wires))),
         4 => register(fresh, 0, netlist, n, before),
@@ -100,13 +111,11 @@ fn shows(
         }
         9 => cells::number(netlist, n, 1),
         10 => register(fresh, start, netlist, n, before),
-        11 => {
-            if high(netlist, n, 1, wires) {
-                lower(netlist, n, 2, wires)
-            } else {
-                lower(netlist, n, 3, wires)
-            }
-        }
+        11 => choice(
+            high(netlist, n, 1, wires),
+            lower(netlist, n, 2, wires),
+            lower(netlist, n, 3, wires),
+        ),
         12 => lower(netlist, n, 1, wires),
         _ => words::operate(
             width,
@@ -162,8 +171,8 @@ pub fn next(
 )
     requires { ⌜ (Ready width (now netlist) (length (now words)) (length (now after)))
         × (length (now before) ≡ cellCount (now netlist)) ⌝ }
-    ensures { λ _. ⌜ now (after .exit) ≡ step width (now (netlist .entry)) (now (before .entry)) load
-        (now (words .entry)) ⌝ }
+    ensures { λ _. ⌜ now (after .exit) ≡ step width (now (netlist .entry)) (now (before .entry))
+        load (now (words .entry)) ⌝ }
 {
     cycle(width, netlist, false, 0, before, load, words, after);
 }

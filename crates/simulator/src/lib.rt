@@ -1,10 +1,10 @@
-// A simulator of netlists, a cycle a call. Each call judges all that it is lent before it writes the first wire:
-// a refused call writes nothing. Document 01: "The simulator", "Refusal numbers".
+// A simulator of netlists, a cycle a call. A call judges all that it is lent before it writes the
+// first wire: a refused call writes nothing. Document 01: "The simulator", "Refusal numbers".
 //
 //     power_up   the wires of cycle 0
 //     step       the wires of a cycle from those of the cycle before
 //     verdicts   the refusals of both: the netlist's, then 17, 18 and 11
-//     cycles     the wires of a cycle, lowest first, for a caller that has checked once and steps many times
+//     cycles     the wires of a cycle, for a caller that has checked once and steps many times
 pub mod cycles;
 pub mod verdicts;
 
@@ -44,7 +44,8 @@ pub fn step(
 ) -> Verdict
     ensures { λ r. ⌜ (r ≡ stepVerdict width (now (netlist .entry)) (now (before .entry))
         (now (words .entry)) (length (now (after .entry)))) × (now (after .exit) ≡ wiresAfter width
-        (now (netlist .entry)) (now (before .entry)) load (now (words .entry)) (now (after .entry))) ⌝ }
+        (now (netlist .entry)) (now (before .entry)) load (now (words .entry))
+        (now (after .entry))) ⌝ }
 {
     let verdict = verdicts::step(width, netlist, before, words, after.len());
     let Verdict::Accepted = verdict else {

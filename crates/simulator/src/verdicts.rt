@@ -1,5 +1,5 @@
-// What the simulator refuses, in document 01's order: the netlist's refusals, then 17, 18 (not at power-up) and 11.
-// Document 01: "Refusal numbers".
+// What the simulator refuses, in document 01's order: the netlist's refusals, then 17, 18 (not at
+// power-up) and 11. Document 01: "Refusal numbers".
 use meaning::Verdict;
 ghost use mathlib.Core.Path.{_≡_};
 ghost use mathlib.Core.Bool.{true};
@@ -9,7 +9,13 @@ ghost use lib.ListN.{length};
 ghost use Rattle.meaning.specs.Choices.{pick, allBelow};
 ghost use Rattle.meaning.specs.Checks.{firstRefusal};
 ghost use Rattle.circuit.specs.Cells.{cellNumber, kindAt, cellCount};
-ghost use Rattle.circuit.specs.Simulated.{inputsGiven, inputsVerdict, wireRefusal, powerUpVerdict, stepVerdict};
+ghost use Rattle.circuit.specs.Simulated.{
+  inputsGiven,
+  inputsVerdict,
+  wireRefusal,
+  powerUpVerdict,
+  stepVerdict,
+};
 
 // Cell n is no input cell, or it names one of the words given.
 fn input_given(netlist: &[u32], given: usize, n: usize) -> bool
@@ -27,7 +33,8 @@ fn input_given(netlist: &[u32], given: usize, n: usize) -> bool
 
 // Every input cell names one of the words given.
 fn inputs_given(netlist: &[u32], given: usize) -> bool
-    ensures { λ r. ⌜ r ≡ inputsGiven (now (netlist .entry)) given (cellCount (now (netlist .entry))) ⌝ }
+    ensures { λ r. ⌜ r ≡ inputsGiven (now (netlist .entry)) given
+        (cellCount (now (netlist .entry))) ⌝ }
 {
     let count = cells::count(netlist);
     let mut n: usize = 0;
@@ -91,7 +98,8 @@ fn wire_refusal(width: u32, netlist: &[u32], wires: &[u32], n: usize) -> u32
 fn wires_fit(width: u32, netlist: &[u32], wires: &[u32]) -> Verdict
     requires { ⌜ (width ≤ 32) × (cellCount (now netlist) ≤ 4096)
         × (length (now wires) ≡ cellCount (now netlist)) ⌝ }
-    ensures { λ r. ⌜ r ≡ firstRefusal (wireRefusal width (now (netlist .entry)) (now (wires .entry)))
+    ensures { λ r. ⌜ r ≡ firstRefusal
+        (wireRefusal width (now (netlist .entry)) (now (wires .entry)))
         (cellCount (now (netlist .entry))) 0 Verdict.Accepted ⌝ }
 {
     let count = cells::count(netlist);

@@ -42,7 +42,9 @@ width-fits-requires : tie.Need-width-fits-requires Inv-loop μ-loop
 width-fits-requires c κs = search needs
 
 returns : tie.Need-returns Inv-loop μ-loop
-returns c = let s = c .before .before .before in bad-width _ (s .args .netlist .now) (sym (c .before .width-fits .ensures) ∙ not-true _ (c .if1 .taken))
+returns c =
+    let s = c .before .before .before in
+    bad-width _ (s .args .netlist .now) (sym (c .before .width-fits .ensures) ∙ not-true _ (c .if1 .taken))
 
 netlist-fits-requires : tie.Need-netlist-fits-requires Inv-loop μ-loop
 netlist-fits-requires c κs = search needs
@@ -73,13 +75,19 @@ cast-t10 c =
     omega (arith, inside d, at-most-4096 (s .args .width) (s .args .netlist .now) (wide (p .before .before)) (whole p))
 
 add-n : tie.Need-add-n Inv-loop μ-loop
-add-n c = let d = c .before .before in let s = start (d .before) in let p = passed (d .before) in omega (arith, inside d, at-most-4096 (s .args .width) (s .args .netlist .now) (wide (p .before .before)) (whole p))
+add-n c =
+    let d = c .before .before in
+    let s = start (d .before) in
+    let p = passed (d .before) in
+    omega (arith, inside d, at-most-4096 (s .args .width) (s .args .netlist .now) (wide (p .before .before)) (whole p))
 
 loop-less : tie.Need-loop-less Inv-loop μ-loop
 loop-less c = omega (arith, inside (c .before .before))
 
 loop-again : tie.Need-loop-again Inv-loop μ-loop
-loop-again c = let d = c .before .before in going-on _ _ _ _ (d .before .loop .inv) (inside d) _ (c .before .refusal .ensures) (c .if4 .left)
+loop-again c =
+    let d = c .before .before in
+    going-on _ _ _ _ (d .before .loop .inv) (inside d) _ (c .before .refusal .ensures) (c .if4 .left)
 
 returns-3 : tie.Need-returns-3 Inv-loop μ-loop
 returns-3 c =

@@ -28,7 +28,10 @@ returns-3 : tie.Need-returns-3
 returns-3 c = rw (c .before .enum-told3 .given .1) (c .fits2 .ensures)
 
 returns-4 : tie.Need-returns-4
-returns-4 c = let a = c .before .args in number-free _ (a .port) _ (⊎-elim (λ e. omega arith) (⊎-elim (λ e. omega arith) (⊎-elim (λ e. omega arith) (λ e. omega arith))) (c .match .keys4))
+returns-4 c =
+    let a = c .before .args in
+    number-free _ (a .port) _
+    (⊎-elim (λ e. omega arith) (⊎-elim (λ e. omega arith) (⊎-elim (λ e. omega arith) (λ e. omega arith))) (c .match .keys4))
 
 pub number-fits-spec : {M : Type 1} → statement M
 number-fits-spec =

@@ -38,8 +38,10 @@ returns c =
     let p = c .before .before .before .before .before .before .before in
     let a = c .before .before .before .before .before .before .before .before .before .before .args in
     c .all .ensures ∙ three (numberFits (a .width)) (a .netlist .now) (a .n) (p .before .kind .ensures) (p .ports-of .ensures)
-    (c .before .before .before .before .before .before .number .ensures) (c .before .before .before .before .number2 .ensures) (c .before .before .number3 .ensures)
-    (c .before .before .before .before .before .number-fits .ensures) (c .before .before .before .number-fits2 .ensures) (c .before .number-fits3 .ensures)
+    (c .before .before .before .before .before .before .number .ensures) (c .before .before .before .before .number2 .ensures)
+    (c .before .before .number3 .ensures)
+    (c .before .before .before .before .before .number-fits .ensures) (c .before .before .before .number-fits2 .ensures)
+    (c .before .number-fits3 .ensures)
 
 pub numbers-fit-spec : {M : Type 1} → statement M
 numbers-fit-spec =

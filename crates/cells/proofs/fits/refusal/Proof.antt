@@ -1,4 +1,5 @@
--- Proof: `cells::fits::refusal` meets its contract: the first test that fails is the answer. Mathematics in `proofs.Refusing`. Assumes nothing.
+-- Proof: `cells::fits::refusal` meets its contract: the first test that fails is the answer. Mathematics in `proofs.Refusing`.
+-- Assumes nothing.
 use Prim.Native.Nat.{ℕ}
 use mathlib.Core.Path.{_≡_, sym, ap, _∙_}
 use borrow.Author.Tests.{not-true, not-false}
@@ -30,7 +31,8 @@ returns-2 : tie.Need-returns-2
 returns-2 c =
     let k = c .before .before .before in
     let a = k .before .before .before .args in
-    bad-number _ _ (a .n) (kind-is k ∙ not-false _ (c .before .before .if1 .left)) (sym (c .before .numbers-fit .ensures) ∙ not-true _ (c .if2 .taken))
+    bad-number _ _ (a .n) (kind-is k ∙ not-false _ (c .before .before .if1 .left))
+    (sym (c .before .numbers-fit .ensures) ∙ not-true _ (c .if2 .taken))
 
 wires-fit-requires : tie.Need-wires-fit-requires
 wires-fit-requires c κs = search needs
@@ -40,11 +42,14 @@ returns-3 c =
     let m = c .before .before .before in
     let k = m .before .before in
     let a = k .before .before .before .args in
-    bad-wire _ _ (a .n) (kind-is k ∙ not-false _ (m .before .if1 .left)) (sym (m .numbers-fit .ensures) ∙ not-false _ (c .before .before .if2 .left))
+    bad-wire _ _ (a .n) (kind-is k ∙ not-false _ (m .before .if1 .left))
+    (sym (m .numbers-fit .ensures) ∙ not-false _ (c .before .before .if2 .left))
     (sym (c .before .wires-fit .ensures) ∙ not-true _ (c .if3 .taken))
 
 sorts-fit-requires : tie.Need-sorts-fit-requires
-sorts-fit-requires c κs = (c .before .before .before .before .before .before .before .before .pre .1, sym (c .before .wires-fit .ensures) ∙ not-false _ (c .if3 .left))
+sorts-fit-requires c κs =
+    let s = c .before .before .before .before .before .before .before .before in
+    (s .pre .1, sym (c .before .wires-fit .ensures) ∙ not-false _ (c .if3 .left))
 
 returns-4 : tie.Need-returns-4
 returns-4 c =
@@ -52,8 +57,10 @@ returns-4 c =
     let m = q .before .before in
     let k = m .before .before in
     let a = k .before .before .before .args in
-    bad-sort _ _ (a .n) (kind-is k ∙ not-false _ (m .before .if1 .left)) (sym (m .numbers-fit .ensures) ∙ not-false _ (q .before .if2 .left))
-    (sym (q .wires-fit .ensures) ∙ not-false _ (c .before .before .if3 .left)) (sym (c .before .sorts-fit .ensures) ∙ not-true _ (c .if4 .taken))
+    bad-sort _ _ (a .n) (kind-is k ∙ not-false _ (m .before .if1 .left))
+    (sym (m .numbers-fit .ensures) ∙ not-false _ (q .before .if2 .left))
+    (sym (q .wires-fit .ensures) ∙ not-false _ (c .before .before .if3 .left))
+    (sym (c .before .sorts-fit .ensures) ∙ not-true _ (c .if4 .taken))
 
 returns-5 : tie.Need-returns-5
 returns-5 c =
@@ -62,7 +69,8 @@ returns-5 c =
     let k = m .before .before in
     let a = k .before .before .before .args in
     fine _ _ (a .n) (kind-is k ∙ not-false _ (m .before .if1 .left)) (sym (m .numbers-fit .ensures) ∙ not-false _ (q .before .if2 .left))
-    (sym (q .wires-fit .ensures) ∙ not-false _ (c .before .before .if3 .left)) (sym (c .before .sorts-fit .ensures) ∙ not-false _ (c .if4 .left))
+    (sym (q .wires-fit .ensures) ∙ not-false _ (c .before .before .if3 .left))
+    (sym (c .before .sorts-fit .ensures) ∙ not-false _ (c .if4 .left))
 
 pub refusal-spec : {M : Type 1} → statement M
 refusal-spec =

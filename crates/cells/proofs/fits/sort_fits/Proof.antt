@@ -10,7 +10,8 @@ enum-told : tie.Need-enum-told
 enum-told c = search needs
 
 kind-requires : tie.Need-kind-requires
-kind-requires c κs = wire-below _ (c .before .before .before .args .port) _ (omega (arith, c .before .match .keys1)) (c .before .before .before .pre)
+kind-requires c κs =
+    wire-below _ (c .before .before .before .args .port) _ (omega (arith, c .before .match .keys1)) (c .before .before .before .pre)
 
 drives-word-requires : tie.Need-drives-word-requires
 drives-word-requires c κs = search needs
@@ -19,7 +20,8 @@ enum-told-2 : tie.Need-enum-told-2
 enum-told-2 c = search needs
 
 kind-requires-2 : tie.Need-kind-requires-2
-kind-requires-2 c κs = wire-below _ (c .before .before .before .args .port) _ (omega (arith, c .before .match .keys2)) (c .before .before .before .pre)
+kind-requires-2 c κs =
+    wire-below _ (c .before .before .before .args .port) _ (omega (arith, c .before .match .keys2)) (c .before .before .before .pre)
 
 drives-bit-requires : tie.Need-drives-bit-requires
 drives-bit-requires c κs = search needs
@@ -28,7 +30,8 @@ enum-told-3 : tie.Need-enum-told-3
 enum-told-3 c = search needs
 
 kind-requires-3 : tie.Need-kind-requires-3
-kind-requires-3 c κs = wire-below _ (c .before .before .before .args .port) _ (omega (arith, c .before .match .keys3)) (c .before .before .before .pre)
+kind-requires-3 c κs =
+    wire-below _ (c .before .before .before .args .port) _ (omega (arith, c .before .match .keys3)) (c .before .before .before .pre)
 
 drives-word-requires-2 : tie.Need-drives-word-requires-2
 drives-word-requires-2 c κs = search needs
@@ -37,7 +40,8 @@ enum-told-4 : tie.Need-enum-told-4
 enum-told-4 c = search needs
 
 kind-requires-4 : tie.Need-kind-requires-4
-kind-requires-4 c κs = wire-below _ (c .before .before .before .args .port) _ (omega (arith, c .before .match .keys4)) (c .before .before .before .pre)
+kind-requires-4 c κs =
+    wire-below _ (c .before .before .before .args .port) _ (omega (arith, c .before .match .keys4)) (c .before .before .before .pre)
 
 drives-bit-requires-2 : tie.Need-drives-bit-requires-2
 drives-bit-requires-2 c κs = search needs
@@ -55,7 +59,9 @@ returns-4 : tie.Need-returns-4
 returns-4 c = rw (c .before .before .enum-told4 .given .1, ← c .before .kind4 .ensures, ← c .drives-bit2 .ensures)
 
 returns-5 : tie.Need-returns-5
-returns-5 c = sort-free _ (c .before .before .args .port) _ (⊎-elim (λ e. omega arith) (⊎-elim (λ e. omega arith) (λ e. omega arith)) (c .match .keys5))
+returns-5 c =
+    sort-free _ (c .before .before .args .port) _
+    (⊎-elim (λ e. omega arith) (⊎-elim (λ e. omega arith) (λ e. omega arith)) (c .match .keys5))
 
 pub sort-fits-spec : {M : Type 1} → statement M
 sort-fits-spec =

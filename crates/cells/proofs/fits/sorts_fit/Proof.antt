@@ -19,7 +19,8 @@ sort-fits-requires : tie.Need-sort-fits-requires
 sort-fits-requires c κs =
     let p = c .before in
     let s = p .before .before .before in
-    rw (p .ports-of .ensures .0, p .before .kind .ensures, c .number .ensures) (all-there (s .args .netlist .now) (s .args .n) (s .pre .0) (s .pre .1) .0)
+    rw (p .ports-of .ensures .0, p .before .kind .ensures, c .number .ensures)
+    (all-there (s .args .netlist .now) (s .args .n) (s .pre .0) (s .pre .1) .0)
 
 number-requires-2 : tie.Need-number-requires-2
 number-requires-2 c κs = search needs
@@ -28,7 +29,8 @@ sort-fits-requires-2 : tie.Need-sort-fits-requires-2
 sort-fits-requires-2 c κs =
     let p = c .before .before .before in
     let s = p .before .before .before in
-    rw (p .ports-of .ensures .1, p .before .kind .ensures, c .number2 .ensures) (all-there (s .args .netlist .now) (s .args .n) (s .pre .0) (s .pre .1) .1)
+    rw (p .ports-of .ensures .1, p .before .kind .ensures, c .number2 .ensures)
+    (all-there (s .args .netlist .now) (s .args .n) (s .pre .0) (s .pre .1) .1)
 
 number-requires-3 : tie.Need-number-requires-3
 number-requires-3 c κs = search needs
@@ -37,7 +39,8 @@ sort-fits-requires-3 : tie.Need-sort-fits-requires-3
 sort-fits-requires-3 c κs =
     let p = c .before .before .before .before .before in
     let s = p .before .before .before in
-    rw (p .ports-of .ensures .2, p .before .kind .ensures, c .number3 .ensures) (all-there (s .args .netlist .now) (s .args .n) (s .pre .0) (s .pre .1) .2)
+    rw (p .ports-of .ensures .2, p .before .kind .ensures, c .number3 .ensures)
+    (all-there (s .args .netlist .now) (s .args .n) (s .pre .0) (s .pre .1) .2)
 
 all-requires : tie.Need-all-requires
 all-requires c κs = search needs
@@ -47,8 +50,10 @@ returns c =
     let p = c .before .before .before .before .before .before .before in
     let a = c .before .before .before .before .before .before .before .before .before .before .args in
     c .all .ensures ∙ three (sortFits (a .netlist .now)) (a .netlist .now) (a .n) (p .before .kind .ensures) (p .ports-of .ensures)
-    (c .before .before .before .before .before .before .number .ensures) (c .before .before .before .before .number2 .ensures) (c .before .before .number3 .ensures)
-    (c .before .before .before .before .before .sort-fits .ensures) (c .before .before .before .sort-fits2 .ensures) (c .before .sort-fits3 .ensures)
+    (c .before .before .before .before .before .before .number .ensures) (c .before .before .before .before .number2 .ensures)
+    (c .before .before .number3 .ensures)
+    (c .before .before .before .before .before .sort-fits .ensures) (c .before .before .before .sort-fits2 .ensures)
+    (c .before .sort-fits3 .ensures)
 
 pub sorts-fit-spec : {M : Type 1} → statement M
 sorts-fit-spec =

@@ -31,7 +31,8 @@ returns-4 : tie.Need-returns-4
 returns-4 c = rw (c .enum-told4 .given .1)
 
 returns-5 : tie.Need-returns-5
-returns-5 c = wire-free _ _ (c .before .args .port) _ (⊎-elim (λ e. omega arith) (⊎-elim (λ e. omega arith) (λ e. omega arith)) (c .match .keys5))
+returns-5 c =
+    wire-free _ _ (c .before .args .port) _ (⊎-elim (λ e. omega arith) (⊎-elim (λ e. omega arith) (λ e. omega arith)) (c .match .keys5))
 
 pub wire-fits-spec : {M : Type 1} → statement M
 wire-fits-spec =

@@ -44,8 +44,10 @@ returns c =
     let m = p .count in
     c .all .ensures
     ∙ three (wireFits (a .n) (m .result)) (a .netlist .now) (a .n) (p .before .before .kind .ensures) (p .before .ports-of .ensures)
-    (c .before .before .before .before .before .before .number .ensures) (c .before .before .before .before .number2 .ensures) (c .before .before .number3 .ensures)
-    (c .before .before .before .before .before .wire-fits .ensures) (c .before .before .before .wire-fits2 .ensures) (c .before .wire-fits3 .ensures)
+    (c .before .before .before .before .before .before .number .ensures) (c .before .before .before .before .number2 .ensures)
+    (c .before .before .number3 .ensures)
+    (c .before .before .before .before .before .wire-fits .ensures) (c .before .before .before .wire-fits2 .ensures)
+    (c .before .wire-fits3 .ensures)
     ∙ ap (λ (k : ℕ). allPorts (wireFits (a .n) k) (a .netlist .now) (a .n)) (m .ensures)
 
 pub wires-fit-spec : {M : Type 1} → statement M

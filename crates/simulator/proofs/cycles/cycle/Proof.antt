@@ -11,7 +11,8 @@ use Rattle.simulator.proofs.cycles.cycle.Statement.{statement}
 use Rattle.simulator.proofs.cycles.cycle.Tie as tie
 
 abbrev Inv-loop : tie.InvT-loop
-Inv-loop width netlist fresh start before load words after₀ count n₀ after n = Passing width load words (heldBy fresh start before) netlist after n
+Inv-loop width netlist fresh start before load words after₀ count n₀ after n =
+    Passing width load words (heldBy fresh start before) netlist after n
 
 abbrev μ-loop : tie.MeasureT-loop
 μ-loop width netlist fresh start before load words after₀ count n₀ after n = cellCount netlist - n
@@ -48,7 +49,9 @@ loop-less : tie.Need-loop-less Inv-loop μ-loop
 loop-less c = omega (arith, inside (c .before .before))
 
 loop-again : tie.Need-loop-again Inv-loop μ-loop
-loop-again c = let L = c .before .before .before in passing-on _ _ _ _ _ _ _ (L .loop .inv) _ (inside (c .before .before)) (c .shows .ensures)
+loop-again c =
+    let L = c .before .before .before in
+    passing-on _ _ _ _ _ _ _ (L .loop .inv) _ (inside (c .before .before)) (c .shows .ensures)
 
 same-length : tie.Need-same-length Inv-loop μ-loop
 same-length c = c .before .loop .inv .long ∙ sym (entry (c .before) .pre .0 .fitting)

@@ -18,7 +18,9 @@ shared-slice-read-result : tie.Need-shared-slice-read-result
 shared-slice-read-result c = search needs
 
 returns : tie.Need-returns
-returns c = let s = c .before .before .before .before in rw (c .before .number .ensures) (sym (getD-take (s .args .n) (s .args .wires .now) _ 0 (s .pre .2)))
+returns c =
+    let s = c .before .before .before .before in
+    rw (c .before .number .ensures) (sym (getD-take (s .args .n) (s .args .wires .now) _ 0 (s .pre .2)))
 
 pub lower-spec : {M : Type 1} → statement M
 lower-spec =

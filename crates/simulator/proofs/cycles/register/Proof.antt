@@ -17,7 +17,9 @@ mul-result : tie.Need-mul-result
 mul-result c = search needs
 
 shared-slice-read-result : tie.Need-shared-slice-read-result
-shared-slice-read-result c = let e = c .before .before in omega (arith, c .before .number .ensures, e .before .before .before .pre .1 (e .if1 .left))
+shared-slice-read-result c =
+    let e = c .before .before in
+    omega (arith, c .before .number .ensures, e .before .before .before .pre .1 (e .if1 .left))
 
 returns-2 : tie.Need-returns-2
 returns-2 c = rw (c .before .before .if1 .left, c .before .number .ensures)

@@ -2,13 +2,15 @@
 -- because the netlist is checked (`cells.proofs.Wires`). Assumes nothing.
 use Prim.Native.Nat.{ℕ, _≤_, _<_}
 use mathlib.Core.Path.{_≡_, refl, sym, _∙_}
-use mathlib.Core.Bool.{true, false}
+use mathlib.Core.Bool.{true}
 use mathlib.Core.List.{List}
 use native.Mathlib.Omega.{arith}
 use lib.ListN.{length}
 use borrow.Author.Tests.{lt-ltb}
 use Rattle.circuit.specs.Cells.{stride, cellNumber, kindAt, cellCount, portsOf}
-use Rattle.cells.proofs.Passed.{Passed, Checked, checked}
+use Rattle.simulator.specs.Ready.{Lower}
+use Rattle.circuit.proofs.Checked.{checked}
+use Rattle.cells.proofs.Passed.{Passed, passed}
 use Rattle.cells.proofs.Wires.{isLower, isLater, x-lower, y-lower, z-lower, x-there, operation-x, operation-y, is-operation}
 use Rattle.simulator.proofs.Inputs.{given-at}
 use borrow.Author.Needs.{needs}
@@ -28,34 +30,29 @@ cell c = start c .args .n
 is : (c : tie.After-kind) (k : ℕ) → c .kind .result ≡ k → kindAt (net c) (cell c) ≡ k
 is c k e = sym (c .kind .ensures) ∙ e
 
-facts : (c : tie.After-kind) → Checked (start c .args .width) (net c)
-facts c = checked (start c .args .width) (net c) (start c .pre .0 .checked)
-
-passed : (c : tie.After-kind) → Passed (start c .args .width) (net c) (cell c)
-passed c = facts c .cells (cell c) (start c .pre .2)
+cell-tests : (c : tie.After-kind) → Passed (start c .args .width) (net c) (cell c)
+cell-tests c = passed _ (net c) (start c .pre .0 .checked) (cell c) (start c .pre .2)
 
 -- A lower wire.
 abbrev Asked : tie.After-kind → ℕ → Type 0
-Asked c j = (j < stride) × (cell c < cellCount (net c)) × (cellNumber (net c) (cell c) j < cell c) × (cell c ≤ length (start c .args .wires .now))
+Asked c j = Lower (net c) (cell c) j (length (start c .args .wires .now))
 
 asked : (c : tie.After-kind) (j : ℕ) → j < stride → cellNumber (net c) (cell c) j < cell c → Asked c j
 asked c j l h = let s = start c in (l, s .pre .2, h, omega (arith, s .pre .0 .fitting, s .pre .2))
 
 x-asked : (c : tie.After-kind) (k : ℕ) → c .kind .result ≡ k → isLower (portsOf k .x) ≡ true → Asked c 1
-x-asked c k e h = asked c 1 (omega arith) (x-lower _ _ _ (passed c) (rw (is c k e) h))
+x-asked c k e h = asked c 1 (omega arith) (x-lower _ _ _ (cell-tests c) (rw (is c k e) h))
 
 y-asked : (c : tie.After-kind) (k : ℕ) → c .kind .result ≡ k → isLower (portsOf k .y) ≡ true → Asked c 2
-y-asked c k e h = asked c 2 (omega arith) (y-lower _ _ _ (passed c) (rw (is c k e) h))
+y-asked c k e h = asked c 2 (omega arith) (y-lower _ _ _ (cell-tests c) (rw (is c k e) h))
 
 z-asked : (c : tie.After-kind) (k : ℕ) → c .kind .result ≡ k → isLower (portsOf k .z) ≡ true → Asked c 3
-z-asked c k e h = asked c 3 (omega arith) (z-lower _ _ _ (passed c) (rw (is c k e) h))
+z-asked c k e h = asked c 3 (omega arith) (z-lower _ _ _ (cell-tests c) (rw (is c k e) h))
 
--- A register's wire of the cycle before.
-held-asked : (c : tie.After-kind) (k : ℕ) → c .kind .result ≡ k → isLater (portsOf k .x) ≡ true →
-    (cell c < cellCount (net c)) × (start c .args .fresh ≡ false → cellNumber (net c) (cell c) 1 < length (start c .args .before .now))
-held-asked c k e h =
-    let l = x-there _ _ _ (passed c) (rw (is c k e) h) in
-    (start c .pre .2, λ f. omega (arith, start c .pre .1 f))
+-- A register's wire.
+there : (c : tie.After-kind) (k : ℕ) → c .kind .result ≡ k → isLater (portsOf k .x) ≡ true →
+    cellNumber (net c) (cell c) 1 < cellCount (net c)
+there c k e h = x-there _ _ _ (cell-tests c) (rw (is c k e) h)
 
 -- An input word.
 given : (c : tie.After-kind) → kindAt (net c) (cell c) ≡ 8 → cellNumber (net c) (cell c) 1 < length (start c .args .words .now)
@@ -66,7 +63,7 @@ operates : (c : tie.At-match-rest) → 13 ≤ kindAt (net (c .before)) (cell (c 
 operates c =
     let m = c .match .rest in
     let e = c .before .kind .ensures in
-    is-operation _ _ _ (passed (c .before))
+    is-operation _ _ _ (cell-tests (c .before))
     (λ z. m .0 .0 .0 .0 .0 .0 .0 .0 .0 .0 .0 .1 (e ∙ z)) (λ z. m .0 .0 .0 .0 .0 .0 .0 .0 .0 .0 .1 (e ∙ z))
     (λ z. m .0 .0 .0 .0 .0 .0 .0 .0 .0 .1 (e ∙ z)) (λ z. m .0 .0 .0 .0 .0 .0 .0 .0 .1 (e ∙ z))
     (λ z. m .0 .0 .0 .0 .0 .0 .0 .1 (e ∙ z)) (λ z. m .0 .0 .0 .0 .0 .0 .1 (e ∙ z)) (λ z. m .0 .0 .0 .0 .0 .1 (e ∙ z))
@@ -83,8 +80,8 @@ high-requires : tie.Need-high-requires
 unfolding portsOf
 high-requires c κs = x-asked (c .before) 1 (c .match .keys2) refl
 
-neither-requires : tie.Need-neither-requires
-neither-requires c κs = search needs
+inverted-requires : tie.Need-inverted-requires
+inverted-requires c κs = search needs
 
 bit-requires-2 : tie.Need-bit-requires-2
 bit-requires-2 c κs = search needs
@@ -119,11 +116,13 @@ bit-requires-4 c κs = search needs
 
 register-requires : tie.Need-register-requires
 unfolding portsOf
-register-requires c κs = held-asked (c .before) 4 (c .match .keys5) refl
+register-requires c κs =
+    (start (c .before) .pre .2, λ f. omega (arith, there (c .before) 4 (c .match .keys5) refl, start (c .before) .pre .1 f))
 
 register-requires-2 : tie.Need-register-requires-2
 unfolding portsOf
-register-requires-2 c κs = held-asked (c .before) 5 (c .match .keys6) refl
+register-requires-2 c κs =
+    (start (c .before) .pre .2, λ f. omega (arith, there (c .before) 5 (c .match .keys6) refl, start (c .before) .pre .1 f))
 
 high-requires-6 : tie.Need-high-requires-6
 unfolding portsOf
@@ -142,14 +141,17 @@ mul-result : tie.Need-mul-result
 mul-result c = search needs
 
 shared-slice-read-result : tie.Need-shared-slice-read-result
-shared-slice-read-result c = let k = c .before .before .before in rw (c .before .number .ensures) (given k (is k 8 (c .before .before .match .keys8)))
+shared-slice-read-result c =
+    let k = c .before .before .before in
+    rw (c .before .number .ensures) (given k (is k 8 (c .before .before .match .keys8)))
 
 number-requires-2 : tie.Need-number-requires-2
 number-requires-2 c κs = search needs
 
 register-requires-3 : tie.Need-register-requires-3
 unfolding portsOf
-register-requires-3 c κs = held-asked (c .before) 10 (c .match .keys10) refl
+register-requires-3 c κs =
+    (start (c .before) .pre .2, λ f. omega (arith, there (c .before) 10 (c .match .keys10) refl, start (c .before) .pre .1 f))
 
 high-requires-7 : tie.Need-high-requires-7
 unfolding portsOf
@@ -157,24 +159,27 @@ high-requires-7 c κs = x-asked (c .before) 11 (c .match .keys11) refl
 
 lower-requires : tie.Need-lower-requires
 unfolding portsOf
-lower-requires c κs = y-asked (c .before .before .before) 11 (c .before .before .match .keys11) refl
+lower-requires c κs = y-asked (c .before .before) 11 (c .before .match .keys11) refl
 
 lower-requires-2 : tie.Need-lower-requires-2
 unfolding portsOf
 lower-requires-2 c κs = z-asked (c .before .before .before) 11 (c .before .before .match .keys11) refl
+
+choice-requires : tie.Need-choice-requires
+choice-requires c κs = search needs
 
 lower-requires-3 : tie.Need-lower-requires-3
 unfolding portsOf
 lower-requires-3 c κs = x-asked (c .before) 12 (c .match .keys12) refl
 
 lower-requires-4 : tie.Need-lower-requires-4
-lower-requires-4 c κs = let k = c .before in asked k 1 (omega arith) (operation-x _ _ _ (passed k) (operates c))
+lower-requires-4 c κs = let k = c .before in asked k 1 (omega arith) (operation-x _ _ _ (cell-tests k) (operates c))
 
 lower-requires-5 : tie.Need-lower-requires-5
-lower-requires-5 c κs = let k = c .before .before in asked k 2 (omega arith) (operation-y _ _ _ (passed k) (operates (c .before)))
+lower-requires-5 c κs = let k = c .before .before in asked k 2 (omega arith) (operation-y _ _ _ (cell-tests k) (operates (c .before)))
 
 operate-requires : tie.Need-operate-requires
-operate-requires c κs = facts (c .before .before .before) .wide .1
+operate-requires c κs = let s = start (c .before .before .before) in checked _ (s .args .netlist .now) (s .pre .0 .checked) .wide .1
 
 returns : tie.Need-returns
 returns c = rw (is (c .before .before) 0 (c .before .match .keys1)) (c .bit .ensures)
@@ -182,7 +187,7 @@ returns c = rw (is (c .before .before) 0 (c .before .match .keys1)) (c .bit .ens
 returns-2 : tie.Need-returns-2
 returns-2 c =
     let m = c .before .before .before in
-    rw (is (m .before) 1 (m .match .keys2)) (c .bit2 .ensures ∙ rw (c .before .neither .ensures, c .before .before .high .ensures))
+    rw (is (m .before) 1 (m .match .keys2)) (c .bit2 .ensures ∙ rw (c .before .inverted .ensures, c .before .before .high .ensures))
 
 returns-3 : tie.Need-returns-3
 returns-3 c =
@@ -220,19 +225,15 @@ returns-10 c = rw (is (c .before .before) 10 (c .before .match .keys10)) (c .reg
 
 returns-11 : tie.Need-returns-11
 returns-11 c =
-    let h = c .before .before in
-    rw (is (h .before .before) 11 (h .before .match .keys11), sym (h .high7 .ensures) ∙ c .before .if1 .taken) (c .lower .ensures)
+    let m = c .before .before .before .before in
+    rw (is (m .before) 11 (m .match .keys11))
+    (c .choice .ensures ∙ rw (c .before .before .before .high7 .ensures, c .before .before .lower .ensures, c .before .lower2 .ensures))
 
 returns-12 : tie.Need-returns-12
-returns-12 c =
-    let h = c .before .before in
-    rw (is (h .before .before) 11 (h .before .match .keys11), sym (h .high7 .ensures) ∙ c .before .if1 .left) (c .lower2 .ensures)
+returns-12 c = rw (is (c .before .before) 12 (c .before .match .keys12)) (c .lower3 .ensures)
 
 returns-13 : tie.Need-returns-13
-returns-13 c = rw (is (c .before .before) 12 (c .before .match .keys12)) (c .lower3 .ensures)
-
-returns-14 : tie.Need-returns-14
-returns-14 c =
+returns-13 c =
     let m = c .before .before .before in
     rw (lt-ltb 12 _ (operates m))
     (c .operate .ensures ∙ rw (m .before .kind .ensures, c .before .before .lower4 .ensures, c .before .lower5 .ensures))
@@ -244,7 +245,7 @@ shows-spec =
     kind-requires
     bit-requires
     high-requires
-    neither-requires
+    inverted-requires
     bit-requires-2
     high-requires-2
     high-requires-3
@@ -267,6 +268,7 @@ shows-spec =
     high-requires-7
     lower-requires
     lower-requires-2
+    choice-requires
     lower-requires-3
     lower-requires-4
     lower-requires-5
@@ -283,5 +285,4 @@ shows-spec =
     returns-10
     returns-11
     returns-12
-    returns-13
-    returns-14)
+    returns-13)

@@ -2,7 +2,7 @@
 use mathlib.Core.Path.{_≡_, sym, _∙_}
 use Rattle.meaning.specs.declared.Verdict.the-variants as verdict
 use Rattle.circuit.specs.Netlists.{netlistVerdict}
-use Rattle.cells.proofs.Passed.{checked}
+use Rattle.circuit.proofs.Checked.{checked}
 use Rattle.simulator.proofs.Judging.{first-netlist, first-room, first-inputs}
 use borrow.Author.Needs.{needs}
 use Rattle.simulator.proofs.verdicts.power_up.Statement.{statement}
@@ -45,7 +45,8 @@ returns-3 c =
     let t = c .before .before .before in
     let a = t .before .before .before .before .before .args in
     c .inputs .ensures
-    ∙ first-inputs (a .width) (a .netlist .now) (a .words .now) (a .room) (fine t) (c .before .if1 .left ∙ c .before .before .count .ensures)
+    ∙ first-inputs (a .width) (a .netlist .now) (a .words .now) (a .room) (fine t)
+    (c .before .if1 .left ∙ c .before .before .count .ensures)
 
 pub power-up-spec : {M : Type 1} → statement M
 power-up-spec =

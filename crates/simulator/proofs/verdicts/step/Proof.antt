@@ -4,7 +4,7 @@ use lib.ListN.{length}
 use Rattle.meaning.specs.declared.Verdict.the-variants as verdict
 use Rattle.circuit.specs.Cells.{cellCount}
 use Rattle.circuit.specs.Netlists.{netlistVerdict}
-use Rattle.cells.proofs.Passed.{checked}
+use Rattle.circuit.proofs.Checked.{checked}
 use Rattle.simulator.proofs.Judging.{step-netlist, step-before, step-after, step-wires, step-inputs}
 use borrow.Author.Needs.{needs}
 use Rattle.simulator.proofs.verdicts.step.Statement.{statement}

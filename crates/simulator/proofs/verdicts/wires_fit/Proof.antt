@@ -43,7 +43,9 @@ loop-less : tie.Need-loop-less Inv-loop μ-loop
 loop-less c = omega (arith, inside (c .before .before))
 
 loop-again : tie.Need-loop-again Inv-loop μ-loop
-loop-again c = let d = c .before .before in going-on _ _ _ _ (d .before .loop .inv) (inside d) _ (c .before .wire-refusal .ensures) (c .if2 .left)
+loop-again c =
+    let d = c .before .before in
+    going-on _ _ _ _ (d .before .loop .inv) (inside d) _ (c .before .wire-refusal .ensures) (c .if2 .left)
 
 returns : tie.Need-returns Inv-loop μ-loop
 returns c = let L = c .before in going-end _ _ _ (L .loop .n) (L .loop .inv) (c .if1 .taken ∙ L .before .count .ensures)

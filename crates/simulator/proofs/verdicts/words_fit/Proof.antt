@@ -29,7 +29,9 @@ fits-requires : tie.Need-fits-requires Inv-loop μ-loop
 fits-requires c κs = search needs
 
 returns : tie.Need-returns Inv-loop μ-loop
-returns c = let i = c .before .before .before in below-not _ _ _ (i .before .loop .inv) (i .loop-test .taken) (sym (c .before .fits2 .ensures) ∙ not-true _ (c .if1 .taken))
+returns c =
+    let i = c .before .before .before in
+    below-not _ _ _ (i .before .loop .inv) (i .loop-test .taken) (sym (c .before .fits2 .ensures) ∙ not-true _ (c .if1 .taken))
 
 add-j : tie.Need-add-j Inv-loop μ-loop
 add-j c = search needs
@@ -38,7 +40,9 @@ loop-less : tie.Need-loop-less Inv-loop μ-loop
 loop-less c = omega arith
 
 loop-again : tie.Need-loop-again Inv-loop μ-loop
-loop-again c = let i = c .before .before .before in below-on _ _ _ (i .before .loop .inv) (i .loop-test .taken) (sym (c .before .fits2 .ensures) ∙ not-false _ (c .if1 .left))
+loop-again c =
+    let i = c .before .before .before in
+    below-on _ _ _ (i .before .loop .inv) (i .loop-test .taken) (sym (c .before .fits2 .ensures) ∙ not-false _ (c .if1 .left))
 
 returns-2 : tie.Need-returns-2 Inv-loop μ-loop
 returns-2 c = below-end _ _ _ (c .before .loop .inv) (c .loop-test .left)
