@@ -51,8 +51,7 @@ module _ (t : ℕ) where
       let m = c .before .before .match .rest in (
         wide (p .ready),
         leaf-small (p .ready) _ (p .there) _ _ (c .before .before .before .number .ensures) (c .before .number2 .ensures)
-            (m .0 .0 .0 .1) (m .0 .0 .1)
-            (m .0 .1) (m .1),
+            (m .0 .0 .0 .1) (m .0 .0 .1) (m .0 .1) (m .1),
         p .within,
       )
 
@@ -75,6 +74,5 @@ module _ (t : ℕ) where
       let m = c .before .before .before .match .rest in
       leaves-as
       (leaf-from (p .ready) _ (p .there) _ _ (c .before .before .before .before .number .ensures) (c .before .before .number2 .ensures)
-      (m .0 .0 .0 .1)
-      (m .0 .0 .1) (m .0 .1) (m .1) _ _ _)
+      (m .0 .0 .0 .1) (m .0 .0 .1) (m .0 .1) (m .1) _ _ _)
       (c .leaf .ensures)
