@@ -13,21 +13,17 @@ use Rattle.evaluator.proofs.leaves.leaf.Tie as tie
 returns : tie.Need-returns
 returns c =
     let a = c .before .args in
-    leaf-stopped (leafWord (a .width) (a .kind) (a .b)) (a .start) (a .limit) (a .words .now) _ (c .if1 .taken)
+    leaf-stopped (leafWord (a .width) (a .kind) (a .b)) (a .start) (a .limit) (a .words .now) _ (omega arith)
 
--- src/leaves.rt:31:9
 word-requires : tie.Need-word-requires
 word-requires c κs = search needs
 
--- src/leaves.rt:33:5
 element-write-words : tie.Need-element-write-words
 element-write-words c = search needs
 
--- src/leaves.rt:34:16
 add-t12 : tie.Need-add-t12
 add-t12 c = search needs
 
--- src/leaves.rt:24:1
 returns-2 : tie.Need-returns-2
 returns-2 c =
     let s = c .before .before .before .before in
