@@ -4,7 +4,6 @@ use Prim.Native.Nat.{ℕ, _+_, _*_, _≤_, _<_}
 use mathlib.Core.Path.{_≡_, refl, sym, ap, _∙_}
 use mathlib.Core.List.{List, [], _∷_, _++_}
 use native.Mathlib.Omega.{arith}
-use lib.Dec.{leb}
 use lib.ListN.{length, take, drop}
 use borrow.Author.Tests.{le-leb, lt-leb}
 use Rattle.meaning.specs.declared.Verdict.{Verdict}
@@ -12,7 +11,7 @@ use Rattle.meaning.specs.declared.Verdict.the-variants as verdict
 use Rattle.meaning.specs.declared.Facts.{Facts}
 use Rattle.meaning.specs.Choices.{at, padded}
 use Rattle.meaning.specs.Terms.{count, lastOf, Term, mainOf}
-use Rattle.meaning.specs.Counts.{ins, outs, size, wholeSize}
+use Rattle.meaning.specs.Counts.{ins, outs, wholeSize}
 use Rattle.meaning.specs.Checks.{verdictOf}
 use Rattle.meaning.specs.Answers.{onVerdict, knownFacts, noFacts, factsOf}
 use Rattle.meaning.proofs.Accepted.{Accepted, accepted}
@@ -20,13 +19,13 @@ use Rattle.meaning.proofs.Typed.{Well, main-well}
 use Rattle.circuit.specs.declared.Emission.the-variants as emission
 use Rattle.circuit.specs.declared.Compiled.{Compiled}
 use Rattle.circuit.specs.Cells.{stride, Cell, numbersOf, loadCell}
-use Rattle.circuit.specs.Pieces.{_after_, Block, wiresFrom}
-use Rattle.circuit.specs.Blocks.{emit}
-use Rattle.circuit.specs.Compiling.{inputCells, front, mainBlock, wholeCells, netlistOf, compileVerdict, emitted, notEmitted, compiledOf, netlistAfter}
-use Rattle.circuit.proofs.Lengths.{wires-length, inputs-length, numbers-length}
+use Rattle.circuit.specs.Pieces.{Block, wiresFrom}
+use Rattle.circuit.specs.Compiling.{inputCells, front, mainBlock, wholeCells}
+use Rattle.circuit.specs.Compiling.{compileVerdict, emitted, notEmitted, compiledOf, netlistAfter}
+use Rattle.circuit.proofs.Lengths.{wires-length, inputs-length}
 use Rattle.circuit.proofs.Sized.{netlist-length}
 use Rattle.compiler.specs.declared.leaves.Made.{Made}
-use Rattle.compiler.specs.Writing.{placed, written}
+use Rattle.compiler.specs.Writing.{written}
 use Rattle.compiler.specs.Building.{Known, blockOf, Emits}
 use Rattle.compiler.proofs.Placing.{plus-after, placed-within, then, before}
 use Rattle.compiler.proofs.Turns.{padded-first}

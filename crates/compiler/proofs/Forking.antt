@@ -1,6 +1,6 @@
 -- Law: a test with its branches, and Ite, from what their calls left. `blocks::fork`, `blocks::ite` and `blocks::rec` cite this.
 -- Assumes nothing.
-use Prim.Native.Nat.{ℕ, _+_, _*_, _≤_}
+use Prim.Native.Nat.{ℕ, _+_, _*_}
 use mathlib.Core.Path.{_≡_, refl, sym, ap, _∙_}
 use mathlib.Core.List.{List, [], _∷_, _++_, append-assoc}
 use native.Mathlib.Omega.{arith}
@@ -16,7 +16,7 @@ use Rattle.circuit.specs.Blocks.{iteBlock, emit}
 use Rattle.circuit.proofs.Lengths.{keeps-length, kept-length}
 use Rattle.circuit.proofs.Sized.{gives, sized}
 use Rattle.compiler.specs.declared.leaves.Made.{Made}
-use Rattle.compiler.specs.declared.blocks.Forked.{Forked}
+use Rattle.compiler.specs.declared.blocks.Forked as declared
 use Rattle.compiler.specs.Writing.{written, gatesOn}
 use Rattle.compiler.specs.Building.{blockOf, Emits, Fork, forkOf, forkCells, Forks}
 use Rattle.compiler.proofs.Placing.{plus-after, then}
@@ -133,40 +133,42 @@ module _ {w : ℕ} {e f g : Term} (he : Well w e) (hf : Well w f) (hg : Well w g
         (C .net ∙ rw (no-is, middle-is) refl);
   }
 
--- What a fork's answer tells its callers.
+-- What a fork's answer tells its callers, by the sizes of its parts.
+pub record Forked (e f g n : ℕ) (r : declared.Forked) : Type 0 where
+  pub gate : r .gate ≡ n + e
+  pub next : r .next ≡ n + (e + 7 + f + g)
+  pub ends : length (r .ends) ≡ 16
+  pub feeds : length (r .feeds) ≡ 16
+
 module _ {w : ℕ} {e f g : Term} (he : Well w e) (hf : Well w f) (hg : Well w g) (same-f : ins e ≡ ins f) (same-g : ins e ≡ ins g)
-    (n s : ℕ) (live kw : List ℕ) (live-long : length live ≡ 16) (kept-long : length kw ≡ 16) {old new : List ℕ} {r : Forked}
+    (n s : ℕ) (live kw : List ℕ) (live-long : length live ≡ 16) (kept-long : length kw ≡ 16) {old new : List ℕ} {r : declared.Forked}
     (B : Forks (forkOf (emit e) (emit f) (emit g) n s (take (ins e) live) (take (ins e) kw)) n old new r) where
+  abbrev lives : List ℕ
+  lives = take (ins e) live
+
+  abbrev helds : List ℕ
+  helds = take (ins e) kw
+
   abbrev blocks : Fork
-  blocks = forkOf (emit e) (emit f) (emit g) n s (take (ins e) live) (take (ins e) kw)
+  blocks = forkOf (emit e) (emit f) (emit g) n s lives helds
 
-  us-long : length (take (ins e) live) ≡ ins e
-  us-long = first-long he n s live live-long
+  lives-long : length lives ≡ ins e
+  lives-long = first-long he n s live live-long
 
-  held-long : length (take (ins e) kw) ≡ ins e
-  held-long = first-long he n s kw kept-long
+  helds-long : length helds ≡ ins e
+  helds-long = first-long he n s kw kept-long
 
-  pub forked-gate : r .gate ≡ n + size e
-  forked-gate = B .gate ∙ fork-gate he hf hg same-f same-g n s (take (ins e) live) (take (ins e) kw) us-long held-long
-
-  pub forked-next : r .next ≡ n + (size e + 7 + size f + size g)
-  forked-next = B .next ∙ fork-next he hf hg same-f same-g n s (take (ins e) live) (take (ins e) kw) us-long held-long
-
-  pub ends-long : length (r .ends) ≡ 16
-  ends-long =
-      ap length (B .ends) ∙ padded-length 16 (blocks .yes .outs) (omega (
-        arith,
-        yes-outs he hf hg same-f same-g n s (take (ins e) live) (take (ins e) kw) us-long held-long,
-        few-outs hf,
-      ))
-
-  pub feeds-long : length (r .feeds) ≡ 16
-  feeds-long =
-      ap length (B .feeds) ∙ padded-length 16 (blocks .no .outs) (omega (
-        arith,
-        no-outs he hf hg same-f same-g n s (take (ins e) live) (take (ins e) kw) us-long held-long,
-        few-outs hg,
-      ))
+  pub fork-answer : Forked (size e) (size f) (size g) n r
+  fork-answer = record {
+    gate = B .gate ∙ fork-gate he hf hg same-f same-g n s lives helds lives-long helds-long;
+    next = B .next ∙ fork-next he hf hg same-f same-g n s lives helds lives-long helds-long;
+    ends =
+        ap length (B .ends) ∙ padded-length 16 (blocks .yes .outs)
+        (omega (arith, yes-outs he hf hg same-f same-g n s lives helds lives-long helds-long, few-outs hf));
+    feeds =
+        ap length (B .feeds) ∙ padded-length 16 (blocks .no .outs)
+        (omega (arith, no-outs he hf hg same-f same-g n s lives helds lives-long helds-long, few-outs hg));
+  }
 
 -- Ite, in the definition's own terms.
 module _ (e f g : Emitter) (b s : ℕ) (xs : List ℕ) where
@@ -187,8 +189,8 @@ module _ (e f g : Emitter) (b s : ℕ) (xs : List ℕ) where
 
 -- Ite, from what its calls left: i and o are the counts as the code has them.
 module _ {w : ℕ} {e f g : Term} (he : Well w e) (hf : Well w f) (hg : Well w g) (same-f : ins e ≡ ins f) (same-g : ins e ≡ ins g)
-    (same-outs : outs f ≡ outs g) (p s : ℕ) (words : List ℕ) (long : length words ≡ 16) (l v1 v2 v3 v4 v5 kw row : List ℕ) (r : Forked)
-    (i o n : ℕ) (i-is : i ≡ ins e) (o-is : o ≡ outs f) (n-is : n ≡ p + 2 * i)
+    (same-outs : outs f ≡ outs g) (p s : ℕ) (words : List ℕ) (long : length words ≡ 16) (l v1 v2 v3 v4 v5 kw row : List ℕ)
+    (r : declared.Forked) (i o n : ℕ) (i-is : i ≡ ins e) (o-is : o ≡ outs f) (n-is : n ≡ p + 2 * i)
     (K1 : kw ≡ padded 16 (kept p (take i words))) (K2 : v1 ≡ written l p (keeps p s (take i words)))
     (B : Forks (forkOf (emit e) (emit f) (emit g) n s (take (ins e) words) (take (ins e) kw)) n v1 v2 r)
     (D1 : v3 ≡ written v2 (r .next) (andCell (r .tested) (r .left) ∷ []))

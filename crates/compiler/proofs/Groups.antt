@@ -4,9 +4,8 @@ use Prim.Native.Nat.{ℕ, _+_}
 use mathlib.Core.Path.{_≡_, refl, ap, _∙_}
 use mathlib.Core.List.{List, [], _∷_, _++_}
 use native.Mathlib.Omega.{arith}
-use lib.ListN.{length}
-use Rattle.circuit.specs.Cells.{Cell, cell, notCell, andCell, highRegister, nonzeroCell, wordRegister, choiceCell}
-use Rattle.circuit.specs.Pieces.{_after_, rise}
+use Rattle.circuit.specs.Cells.{Cell, notCell, andCell, highRegister, nonzeroCell}
+use Rattle.circuit.specs.Pieces.{rise}
 use Rattle.circuit.specs.Compiling.{front}
 use Rattle.compiler.specs.Writing.{written, gatesOn, endingOn}
 use Rattle.compiler.proofs.Placing.{plus-after, then}

@@ -1,26 +1,25 @@
 -- Law: Rec from what its calls left. `blocks::rec` cites this. Assumes nothing.
-use Prim.Native.Nat.{ℕ, _+_, _*_, _≤_}
+use Prim.Native.Nat.{ℕ, _+_, _*_}
 use mathlib.Core.Path.{_≡_, refl, sym, ap, _∙_}
-use mathlib.Core.List.{List, [], _∷_, _++_, append-assoc}
+use mathlib.Core.List.{List, [], _∷_, _++_}
 use native.Mathlib.Omega.{arith}
-use lib.ListN.{length, take, length-append}
+use lib.ListN.{length, take}
 use Rattle.meaning.specs.Choices.{padded}
 use Rattle.meaning.specs.Terms.{Term, rec}
-use Rattle.meaning.specs.Counts.{ins, outs, size}
+use Rattle.meaning.specs.Counts.{ins, outs}
 use Rattle.meaning.proofs.Typed.{Well}
 use Rattle.circuit.specs.Cells.{Cell, orCell, lowRegister}
-use Rattle.circuit.specs.Pieces.{_after_, Block, Emitter, wiresFrom, keeps, kept, choices, registers, ending}
+use Rattle.circuit.specs.Pieces.{_after_, Emitter, wiresFrom, keeps, kept, choices, registers, ending}
 use Rattle.circuit.specs.Blocks.{recBlock, emit}
 use Rattle.circuit.proofs.Lengths.{wires-length, keeps-length, kept-length, choices-length, registers-length}
 use Rattle.circuit.proofs.Places.{LoopPlaces, loopPlaces}
-use Rattle.compiler.specs.declared.leaves.Made.{Made}
 use Rattle.compiler.specs.declared.blocks.Forked.{Forked}
 use Rattle.compiler.specs.Writing.{written, endingOn}
 use Rattle.compiler.specs.Building.{Emits, Fork, forkOf, forkCells, Forks}
 use Rattle.compiler.proofs.Placing.{plus-after, then, before}
 use Rattle.compiler.proofs.Turns.{padded-first}
 use Rattle.compiler.proofs.Pairs.{first-long}
-use Rattle.compiler.proofs.Forking.{fork-ends, fork-behind, fork-next, yes-outs, no-outs}
+use Rattle.compiler.proofs.Forking.{fork-ends, fork-behind, fork-next, no-outs}
 
 -- In the definition's own terms: what stands from `o` on, and in front of it what reads g.
 module _ (e f g : Emitter) (b s : ℕ) (xs : List ℕ) where
@@ -62,7 +61,8 @@ module _ (e f g : Emitter) (b s : ℕ) (xs : List ℕ) where
       v3 ≡ written l b (recBlock e f g b s xs .cells)
   rec-cells l v1 v2 v3 h e1 e2 e3 =
       before l b (lowRegister (2 after recFork .next) ∷ []) (registers (recFork .no .outs) ++ behind) (1 after b) (omega arith) v2 v3
-      (before l (1 after b) (registers (recFork .no .outs)) behind (L .o) (omega (arith, registers-length (recFork .no .outs))) v1 v2 e1 e2) e3
+      (before l (1 after b) (registers (recFork .no .outs)) behind (L .o) (omega (arith, registers-length (recFork .no .outs)))
+      v1 v2 e1 e2) e3
       ∙ ap (λ (cs : List Cell). written l b (lowRegister (2 after recFork .next) ∷ (registers (recFork .no .outs) ++
       (orCell s b ∷ (chosen ++ (keeps (L .k) (L .o) (L .us) ++ cs))))))
       (fork-behind e f g start (L .o) (L .us) (kept (L .k) (L .us)) recEnd)

@@ -19,7 +19,7 @@ use Rattle.circuit.specs.Pieces.{_after_}
 use Rattle.circuit.specs.Blocks.{operationCell, leafBlock}
 use Rattle.compiler.specs.declared.leaves.Made.{Made}
 use Rattle.compiler.specs.Writing.{written}
-use Rattle.compiler.specs.Building.{blockOf, Emits, leafMade}
+use Rattle.compiler.specs.Building.{Emits, leafMade}
 use Rattle.compiler.proofs.Placing.{plus-after}
 use Rattle.compiler.proofs.Groups.{four}
 
@@ -35,6 +35,10 @@ module _ (k v : ℕ) (ws : List ℕ) where
 
   pub operation-one : 13 ≤ k → 20 ≤ k → operationCell k v ws ≡ cell k (at ws 0) 0 0
   operation-one h l = rw (le-ltb k 13 h, le-ltb k 20 l)
+
+-- A cell that was put, by another name.
+pub instead : (l : List ℕ) (p : ℕ) {v : List ℕ} {c d : Cell} → c ≡ d → v ≡ written l p (d ∷ []) → v ≡ written l p (c ∷ [])
+instead l p e h = h ∙ ap (λ (x : Cell). written l p (x ∷ [])) (sym e)
 
 -- A leaf that fits reads no wire past its own.
 arity-two : (k : ℕ) → k < 20 → arity k ≡ 2

@@ -4,7 +4,7 @@ use Prim.Native.Nat.{ℕ, _+_, _≤_}
 use mathlib.Core.Path.{_≡_, refl, sym, ap, _∙_}
 use mathlib.Core.List.{List, [], _∷_, _++_}
 use native.Mathlib.Omega.{arith}
-use lib.ListN.{length, take, length-append}
+use lib.ListN.{length, take}
 use lib.Seq.{length-take-le}
 use Rattle.meaning.specs.Choices.{padded}
 use Rattle.meaning.specs.Terms.{Term, seq, par}
@@ -118,7 +118,11 @@ module _ {w : ℕ} {f g : Term} (hf : Well w f) (hg : Well w g) (same : ins f �
   joined =
       J ∙ (rw (A .outs, handed hg (a .next) s words long B (outs g) refl, par-second)
       (padded-join 16 (outs f) (Q .F .outs) (Q .G .outs) (block-outs hf p s words long)
-      (omega (arith, block-outs hf p s words long, ap (λ (G : Block). length (G .outs)) (sym par-second) ∙ block-outs hg (a .next) s words long))))
+      (omega (
+        arith,
+        block-outs hf p s words long,
+        ap (λ (G : Block). length (G .outs)) (sym par-second) ∙ block-outs hg (a .next) s words long,
+      ))))
 
   pub par-emits : Emits (par f g) p s words l v3 (record { next = b .next + 1; done = b .next; outs = row })
   par-emits = record {

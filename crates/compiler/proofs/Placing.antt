@@ -5,7 +5,7 @@ use mathlib.Core.Path.{_≡_, refl, sym, ap, _∙_}
 use mathlib.Core.List.{List, [], _∷_, _++_}
 use native.Mathlib.Nat.{add-zero, add-suc}
 use native.Mathlib.Omega.{arith}
-use lib.ListN.{length, set, take, drop, length-append}
+use lib.ListN.{length, set, take, drop}
 use lib.Seq.{sets, length-sets, sets-eq, set-comm}
 use Rattle.circuit.specs.Cells.{stride, Cell, cell, numbersOf}
 use Rattle.circuit.proofs.Lengths.{numbers-length}

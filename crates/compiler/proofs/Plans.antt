@@ -1,13 +1,13 @@
 -- Law: what a known term of an accepted table tells the function of its kind: its counts, its operands, and its size by theirs.
 -- `blocks` cites this. Assumes nothing.
 use Prim.Native.Nat.{ℕ, _+_, _*_, _≤_, _<_}
-use mathlib.Core.Path.{_≡_, refl, sym, ap, _∙_}
+use mathlib.Core.Path.{_≡_, refl, ap, _∙_}
 use mathlib.Core.List.{List}
 use mathlib.Core.Logic.{inl, inr}
 use native.Mathlib.Omega.{arith}
 use lib.ListN.{length}
 use Rattle.meaning.specs.Choices.{at}
-use Rattle.meaning.specs.Terms.{numberOf, kindOf, count, Term, leaf, seq, par, ite, rec, tree}
+use Rattle.meaning.specs.Terms.{numberOf, kindOf, leaf, seq, par, ite, rec, tree}
 use Rattle.meaning.specs.Counts.{ins, outs, size}
 use Rattle.meaning.specs.Checks.{operandTree}
 use Rattle.meaning.proofs.Tests.{split}
@@ -155,6 +155,8 @@ pub record ItePlan (w : ℕ) (t is os : List ℕ) (k : ℕ) : Type 0 where
   pub same-outs : outs (operandTree t k 2) ≡ outs (operandTree t k 3)
   pub takes : at is k ≡ ins (operandTree t k 1)
   pub gives : at os k ≡ outs (operandTree t k 2)
+  pub few-ins : at is k ≤ 16
+  pub few-outs : at os k ≤ 16
   pub sizes : size (tree t k) ≡
       2 * at is k + size (operandTree t k 1) + size (operandTree t k 2) + size (operandTree t k 3) + 9 + at os k
   pub decoded : tree t k ≡ ite (operandTree t k 1) (operandTree t k 2) (operandTree t k 3)
@@ -163,6 +165,7 @@ pub record RecPlan (w : ℕ) (t is os : List ℕ) (k : ℕ) : Type 0 where
   pub fork : ForkPlan w t is os k (numberOf t k 1) (numberOf t k 2) (numberOf t k 3)
   pub back : outs (operandTree t k 3) ≡ ins (operandTree t k 1)
   pub takes : at is k ≡ ins (operandTree t k 1)
+  pub few-ins : at is k ≤ 16
   pub sizes : size (tree t k) ≡ 4 * at is k + size (operandTree t k 1) + size (operandTree t k 2) + size (operandTree t k 3) + 16
   pub decoded : tree t k ≡ rec (operandTree t k 1) (operandTree t k 2) (operandTree t k 3)
 
@@ -177,6 +180,8 @@ module _ {t is os : List ℕ} {k : ℕ} (h : Known t is os k) where
         same-outs = r .same-outs;
         takes = i;
         gives = o;
+        few-ins = takes-few h;
+        few-outs = gives-few h;
         sizes = ap size (r .decoded) ∙ rw (i, o) refl;
         decoded = r .decoded;
       }
@@ -189,6 +194,7 @@ module _ {t is os : List ℕ} {k : ℕ} (h : Known t is os k) where
         fork = fork-lower h (omega arith) (omega arith);
         back = r .back;
         takes = i;
+        few-ins = takes-few h;
         sizes = ap size (r .decoded) ∙ rw i refl;
         decoded = r .decoded;
       }

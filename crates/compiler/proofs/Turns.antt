@@ -3,10 +3,9 @@
 use Prim.Native.Nat.{ℕ, zero, suc, _+_, _*_, _-_, _≤_, _<_}
 use mathlib.Core.Path.{_≡_, refl, sym, ap, _∙_}
 use mathlib.Core.List.{List, [], _∷_, _++_, append-assoc}
-use native.Mathlib.Nat.{add-zero}
 use native.Mathlib.Numerals.{add-one}
 use native.Mathlib.Omega.{arith}
-use lib.ListN.{length, getD, set, take, drop, replicate, length-append, length-replicate, length-take}
+use lib.ListN.{length, getD, set, take, drop, replicate, length-append}
 use lib.Seq.{take-suc, take-at, set-at, drop-append-add, length-take-le}
 use Rattle.meaning.specs.Choices.{padded}
 use Rattle.meaning.proofs.Lists.{padded-length}

@@ -1,6 +1,7 @@
 // The block of a term, kind by kind. Document 01: "Cells", the items on the kinds.
-// Emission recurses on operands, the term number falling at each call; each use of a term is a block of its own, and each
-// cell is written once. Where a cell reads a later wire, it is written after the block that drives it.
+// Emission recurses on operands, the term number falling at each call; each use of a term is a
+// block of its own, and each cell is written once. Where a cell reads a later wire, it is written
+// after the block that drives it.
 //
 //     emit     goes by the kind
 //     leaf     9 and above, in `leaves`
@@ -23,8 +24,8 @@ ghost use mathlib.Core.Path.{_≡_};
 ghost use Rattle.meaning.specs.Terms.{kindOf, tree};
 ghost use Rattle.compiler.specs.Building.{Ready, Emits, ForkReady, Forks, forkAt};
 
-// A test with two branches in the netlist: where its gates stand and what follows it; the done wires of the test, of the
-// branch left by and of the other; the output wires of both branches.
+// A test with two branches in the netlist: where its gates stand and what follows it; the done
+// wires of the test, of the branch left by and of the other; the output wires of both branches.
 pub struct Forked {
     pub gate: u32,
     pub next: u32,
@@ -46,8 +47,10 @@ fn seq(
     start: u32,
     words: [u32; 16],
 ) -> Made
-    requires { ⌜ (Ready (now table) (now ins) (now outs) k (now netlist) at words) × (kindOf (now table) k ≡ 1) ⌝ }
-    ensures { λ r. ⌜ Emits (tree (now (table .entry)) k) at start words (now (netlist .entry)) (now (netlist .exit)) r ⌝ }
+    requires { ⌜ (Ready (now table) (now ins) (now outs) k (now netlist) at words)
+        × (kindOf (now table) k ≡ 1) ⌝ }
+    ensures { λ r. ⌜ Emits (tree (now (table .entry)) k) at start words
+        (now (netlist .entry)) (now (netlist .exit)) r ⌝ }
 {
     let f = operand(table, k, 1);
     let g = operand(table, k, 2);
@@ -79,8 +82,10 @@ fn par(
     start: u32,
     words: [u32; 16],
 ) -> Made
-    requires { ⌜ (Ready (now table) (now ins) (now outs) k (now netlist) at words) × (kindOf (now table) k ≡ 2) ⌝ }
-    ensures { λ r. ⌜ Emits (tree (now (table .entry)) k) at start words (now (netlist .entry)) (now (netlist .exit)) r ⌝ }
+    requires { ⌜ (Ready (now table) (now ins) (now outs) k (now netlist) at words)
+        × (kindOf (now table) k ≡ 2) ⌝ }
+    ensures { λ r. ⌜ Emits (tree (now (table .entry)) k) at start words
+        (now (netlist .entry)) (now (netlist .exit)) r ⌝ }
 {
     let f = operand(table, k, 1);
     let g = operand(table, k, 2);
@@ -113,7 +118,8 @@ fn fork(
     kept: [u32; 16],
 ) -> Forked
     requires { ⌜ ForkReady (now table) (now ins) (now outs) k (now netlist) at live kept ⌝ }
-    ensures { λ r. ⌜ Forks (forkAt (now (table .entry)) k at start live kept) at (now (netlist .entry)) (now (netlist .exit)) r ⌝ }
+    ensures { λ r. ⌜ Forks (forkAt (now (table .entry)) k at start live kept) at
+        (now (netlist .entry)) (now (netlist .exit)) r ⌝ }
 {
     let e = operand(table, k, 1);
     let f = operand(table, k, 2);
@@ -142,7 +148,8 @@ fn fork(
     }
 }
 
-// Ite: the inputs kept; the test on the inputs and its branches; all three dones; each output chosen on the test's word.
+// Ite: the inputs kept; the test on the inputs and its branches; all three dones; each output
+// chosen on the test's word.
 fn ite(
     table: &[u32],
     ins: &[u32; 256],
@@ -153,8 +160,10 @@ fn ite(
     start: u32,
     words: [u32; 16],
 ) -> Made
-    requires { ⌜ (Ready (now table) (now ins) (now outs) k (now netlist) at words) × (kindOf (now table) k ≡ 3) ⌝ }
-    ensures { λ r. ⌜ Emits (tree (now (table .entry)) k) at start words (now (netlist .entry)) (now (netlist .exit)) r ⌝ }
+    requires { ⌜ (Ready (now table) (now ins) (now outs) k (now netlist) at words)
+        × (kindOf (now table) k ≡ 3) ⌝ }
+    ensures { λ r. ⌜ Emits (tree (now (table .entry)) k) at start words
+        (now (netlist .entry)) (now (netlist .exit)) r ⌝ }
 {
     let n = ins[k];
     let m = outs[k];
@@ -177,8 +186,9 @@ fn ite(
     }
 }
 
-// Rec: what starts a round; the words of the round, from g's registers or the inputs; these kept; the test and its branches;
-// the ending. What reads g comes last: "again", a register of g's rise, and a register of each of g's outputs.
+// Rec: what starts a round; the words of the round, from g's registers or the inputs; these kept;
+// the test and its branches; the ending. What reads g comes last: a register of each of g's
+// outputs, and "again", a register of g's rise.
 fn rec(
     table: &[u32],
     ins: &[u32; 256],
@@ -189,8 +199,10 @@ fn rec(
     start: u32,
     words: [u32; 16],
 ) -> Made
-    requires { ⌜ (Ready (now table) (now ins) (now outs) k (now netlist) at words) × (kindOf (now table) k ≡ 4) ⌝ }
-    ensures { λ r. ⌜ Emits (tree (now (table .entry)) k) at start words (now (netlist .entry)) (now (netlist .exit)) r ⌝ }
+    requires { ⌜ (Ready (now table) (now ins) (now outs) k (now netlist) at words)
+        × (kindOf (now table) k ≡ 4) ⌝ }
+    ensures { λ r. ⌜ Emits (tree (now (table .entry)) k) at start words
+        (now (netlist .entry)) (now (netlist .exit)) r ⌝ }
 {
     let n = ins[k];
     let round = at + 1 + n;
@@ -236,7 +248,8 @@ pub fn emit(
     words: [u32; 16],
 ) -> Made
     requires { ⌜ Ready (now table) (now ins) (now outs) k (now netlist) at words ⌝ }
-    ensures { λ r. ⌜ Emits (tree (now (table .entry)) k) at start words (now (netlist .entry)) (now (netlist .exit)) r ⌝ }
+    ensures { λ r. ⌜ Emits (tree (now (table .entry)) k) at start words
+        (now (netlist .entry)) (now (netlist .exit)) r ⌝ }
 {
     let kind = number(table, k, 0);
     match kind {

@@ -1,5 +1,6 @@
-// Single cells and fixed groups of them, written into a lent netlist. Document 01: "Cells", from "Emission, in order" on.
+// Single cells and fixed groups of them, written into a lent netlist.
 // A cell is written by `put` alone; what stands elsewhere in the netlist stays.
+// Document 01: "Cells", from "Emission, in order" on.
 ghost use mathlib.Core.Path.{_≡_};
 ghost use mathlib.Core.List.{[], _∷_};
 ghost use Prim.Native.Nat.{_+_};
@@ -18,7 +19,8 @@ pub fn wide(x: u32) -> usize
 // Writes one cell.
 pub fn put(netlist: &mut [u32], at: u32, kind: u32, x: u32, y: u32, z: u32)
     requires { ⌜ Room (now netlist) at 1 ⌝ }
-    ensures { λ _. ⌜ now (netlist .exit) ≡ written (now (netlist .entry)) at (cell kind x y z ∷ []) ⌝ }
+    ensures { λ _. ⌜ now (netlist .exit)
+        ≡ written (now (netlist .entry)) at (cell kind x y z ∷ []) ⌝ }
 {
     let i = wide(at) * 4;
     netlist[i] = kind;
@@ -30,17 +32,19 @@ pub fn put(netlist: &mut [u32], at: u32, kind: u32, x: u32, y: u32, z: u32)
 // The three cells that see `done` rise.
 pub fn rise(netlist: &mut [u32], at: u32, done: u32)
     requires { ⌜ Room (now netlist) at 3 ⌝ }
-    ensures { λ _. ⌜ now (netlist .exit) ≡ written (now (netlist .entry)) at («rise» at done) ⌝ }
+    ensures { λ _. ⌜ now (netlist .exit)
+        ≡ written (now (netlist .entry)) at («rise» at done) ⌝ }
 {
     put(netlist, at, 5, done, 0, 0);
     put(netlist, at + 1, 1, at, 0, 0);
     put(netlist, at + 2, 2, done, at + 1, 0);
 }
 
-// Between a test and its branches: the rise of its done, its word is not zero, not, and the two starts.
+// Between a test and its branches: the rise of its done; its word is not zero; not; two starts.
 pub fn gates(netlist: &mut [u32], at: u32, done: u32, word: u32)
     requires { ⌜ Room (now netlist) at 7 ⌝ }
-    ensures { λ _. ⌜ now (netlist .exit) ≡ written (now (netlist .entry)) at (gatesOn at done word) ⌝ }
+    ensures { λ _. ⌜ now (netlist .exit)
+        ≡ written (now (netlist .entry)) at (gatesOn at done word) ⌝ }
 {
     rise(netlist, at, done);
     put(netlist, at + 3, 6, word, 0, 0);
@@ -52,7 +56,8 @@ pub fn gates(netlist: &mut [u32], at: u32, done: u32, word: u32)
 // The end of a Rec: the rise of g's done, all three dones, not of that rise, and done.
 pub fn ending(netlist: &mut [u32], at: u32, tested: u32, left: u32, again: u32)
     requires { ⌜ Room (now netlist) at 7 ⌝ }
-    ensures { λ _. ⌜ now (netlist .exit) ≡ written (now (netlist .entry)) at (endingOn at tested left again) ⌝ }
+    ensures { λ _. ⌜ now (netlist .exit)
+        ≡ written (now (netlist .entry)) at (endingOn at tested left again) ⌝ }
 {
     rise(netlist, at, again);
     put(netlist, at + 3, 2, tested, left, 0);
@@ -64,7 +69,8 @@ pub fn ending(netlist: &mut [u32], at: u32, tested: u32, left: u32, again: u32)
 // After load and the n inputs: load a cycle ago, not; done a cycle ago; the rise of load; start.
 pub fn front(netlist: &mut [u32], n: u32, done: u32)
     requires { ⌜ Room (now netlist) (n + 1) 5 ⌝ }
-    ensures { λ _. ⌜ now (netlist .exit) ≡ written (now (netlist .entry)) (n + 1) («front» n done) ⌝ }
+    ensures { λ _. ⌜ now (netlist .exit)
+        ≡ written (now (netlist .entry)) (n + 1) («front» n done) ⌝ }
 {
     put(netlist, n + 1, 5, 0, 0, 0);
     put(netlist, n + 2, 1, n + 1, 0, 0);

@@ -1,4 +1,5 @@
-// The block of a term without operands, kind 9 and above. Document 01: "Cells", the item on these kinds.
+// The block of a term without operands, kind 9 and above.
+// Document 01: "Cells", the item on these kinds.
 use crate::cells::put;
 use crate::cells::wide;
 use crate::rows::wires;
@@ -9,7 +10,8 @@ ghost use Rattle.circuit.specs.Blocks.{operationCell, leafBlock};
 ghost use Rattle.compiler.specs.Writing.{written, Room};
 ghost use Rattle.compiler.specs.Building.{leafMade};
 
-// A block that stands in the netlist: the wire that follows it, its done wire, and its output wires, those past its own 0.
+// A block that stands in the netlist: the wire that follows it, its done wire, and its output
+// wires, those past its own 0.
 pub struct Made {
     pub next: u32,
     pub done: u32,
@@ -19,7 +21,8 @@ pub struct Made {
 // The operation cell of a leaf: a constant, a copy of a word, or its kind on its words.
 fn operation(netlist: &mut [u32], at: u32, kind: u32, value: u32, words: [u32; 16])
     requires { ⌜ (Room (now netlist) at 1) × (kind < 13 → (kind ≡ 9 → ⊥) → value < 16) ⌝ }
-    ensures { λ _. ⌜ now (netlist .exit) ≡ written (now (netlist .entry)) at (operationCell kind value words ∷ []) ⌝ }
+    ensures { λ _. ⌜ now (netlist .exit)
+        ≡ written (now (netlist .entry)) at (operationCell kind value words ∷ []) ⌝ }
 {
     if kind < 13 {
         if kind == 9 {
@@ -36,7 +39,8 @@ fn operation(netlist: &mut [u32], at: u32, kind: u32, value: u32, words: [u32; 1
     }
 }
 
-// Kind 9 and above: not start, which is done; the output's register; the operation; a choice between both.
+// Kind 9 and above: not start, which is done; the output's register; the operation; a choice
+// between both.
 pub fn leaf(
     netlist: &mut [u32],
     at: u32,
@@ -47,7 +51,8 @@ pub fn leaf(
 ) -> Made
     requires { ⌜ (Room (now netlist) at 4) × (kind < 13 → (kind ≡ 9 → ⊥) → value < 16) ⌝ }
     ensures { λ r. ⌜ (r ≡ leafMade at)
-        × (now (netlist .exit) ≡ written (now (netlist .entry)) at (leafBlock kind value at start words .cells)) ⌝ }
+        × (now (netlist .exit)
+        ≡ written (now (netlist .entry)) at (leafBlock kind value at start words .cells)) ⌝ }
 {
     put(netlist, at, 1, start, 0, 0);
     put(netlist, at + 1, 10, at + 3, 0, 0);

@@ -1,5 +1,6 @@
 // The compiler: from a table to a netlist of cells in lent memory. Document 01: "Cells".
-// It refuses 1 to 9 as `terms::check` does, and 10 where the memory is under four times the cells; a refused call writes nothing.
+// It refuses 1 to 9 as `terms::check` does, and 10 where the memory is under four times the
+// cells; a refused call writes nothing.
 //
 //     compile   judges the table, then the memory, then writes
 //     whole     load, the inputs, the main block, and in front of that what reads its done wire
@@ -53,7 +54,8 @@ fn passed_on(verdict: Verdict) -> Compiled
     }
 }
 
-// The whole circuit of term k: load; the inputs; the main block behind them and five cells more, which are written last.
+// The whole circuit of term k: load; the inputs; the main block behind them and five cells more,
+// which are written last.
 fn whole(
     table: &[u32],
     ins: &[u32; 256],
@@ -63,7 +65,8 @@ fn whole(
 ) -> Compiled
     requires { ⌜ WholeReady (now table) (now ins) (now outs) k (now netlist) ⌝ }
     ensures { λ r. ⌜ (r ≡ emitted (tree (now (table .entry)) k))
-        × (now (netlist .exit) ≡ written (now (netlist .entry)) 0 (wholeCells (tree (now (table .entry)) k))) ⌝ }
+        × (now (netlist .exit)
+        ≡ written (now (netlist .entry)) 0 (wholeCells (tree (now (table .entry)) k))) ⌝ }
 {
     let n = ins[k];
     put(netlist, 0, 0, 0, 0, 0);
@@ -79,7 +82,8 @@ fn whole(
     }
 }
 
-// The netlist of a table at a width, from the first number of the lent memory on; past it the memory stays.
+// The netlist of a table at a width, from the first number of the lent memory on; past it the
+// memory stays.
 pub fn compile(width: u32, table: &[u32], netlist: &mut [u32]) -> Compiled
     ensures { λ r. ⌜ (r ≡ compiledOf width (now (table .entry)) (length (now (netlist .entry))))
         × (now (netlist .exit) ≡ netlistAfter width (now (table .entry)) (now (netlist .entry))) ⌝ }

@@ -1,5 +1,6 @@
-// Rows: one wire or cell for each of n words, at most 16. Document 01: "Cells", from "Emission, in order" on.
+// Rows: one wire or cell for each of n words, at most 16.
 // Words go in an array of 16 wires, of which those past n are not read.
+// Document 01: "Cells", from "Emission, in order" on.
 use crate::cells::put;
 use crate::cells::wide;
 ghost use mathlib.Core.Path.{_≡_};
@@ -29,7 +30,8 @@ pub fn wires(at: u32, n: u32) -> [u32; 16]
 pub fn keep(netlist: &mut [u32], at: u32, start: u32, words: [u32; 16], n: u32) -> [u32; 16]
     requires { ⌜ (n ≤ 16) × (Room (now netlist) at (2 * n)) × (length words ≡ 16) ⌝ }
     ensures { λ r. ⌜ (r ≡ padded 16 (kept at (take n words)))
-        × (now (netlist .exit) ≡ written (now (netlist .entry)) at (keeps at start (take n words))) ⌝ }
+        × (now (netlist .exit)
+        ≡ written (now (netlist .entry)) at (keeps at start (take n words))) ⌝ }
 {
     let mut row = [0u32; 16];
     let mut j: u32 = 0;
@@ -53,9 +55,11 @@ pub fn choose(
     second: [u32; 16],
     n: u32,
 ) -> [u32; 16]
-    requires { ⌜ (n ≤ 16) × (Room (now netlist) at n) × (length first ≡ 16) × (length second ≡ 16) ⌝ }
+    requires { ⌜ (n ≤ 16) × (Room (now netlist) at n)
+        × (length first ≡ 16) × (length second ≡ 16) ⌝ }
     ensures { λ r. ⌜ (r ≡ padded 16 (wiresFrom at n))
-        × (now (netlist .exit) ≡ written (now (netlist .entry)) at (choices bit (take n first) (take n second))) ⌝ }
+        × (now (netlist .exit) ≡ written (now (netlist .entry)) at
+        (choices bit (take n first) (take n second))) ⌝ }
 {
     let mut j: u32 = 0;
     while j < n {
@@ -69,7 +73,8 @@ pub fn choose(
 // A register of each of n words.
 pub fn registers(netlist: &mut [u32], at: u32, words: [u32; 16], n: u32)
     requires { ⌜ (n ≤ 16) × (Room (now netlist) at n) × (length words ≡ 16) ⌝ }
-    ensures { λ _. ⌜ now (netlist .exit) ≡ written (now (netlist .entry)) at («registers» (take n words)) ⌝ }
+    ensures { λ _. ⌜ now (netlist .exit)
+        ≡ written (now (netlist .entry)) at («registers» (take n words)) ⌝ }
 {
     let mut j: u32 = 0;
     while j < n {

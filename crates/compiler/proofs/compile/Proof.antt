@@ -31,8 +31,10 @@ passed-on-requires c κs = search needs
 returns : tie.Need-returns
 returns c =
     let s = c .before .before .before .before .before .before in
-    let e = table-verdict (s .args .table .now) (c .before .before .before .check .result) (s .args .width) (c .before .before .before .check .ensures) in
-    passed-answer (s .args .width) (s .args .table .now) (s .args .netlist .now) _ _ _ _ e (c .before .enum-told2 .given .1) (c .passed-on .ensures)
+    let judged = c .before .before .before in
+    let e = table-verdict (s .args .table .now) (judged .check .result) (s .args .width) (judged .check .ensures) in
+    passed-answer (s .args .width) (s .args .table .now) (s .args .netlist .now) _ _ _ _ e (c .before .enum-told2 .given .1)
+    (c .passed-on .ensures)
 
 sub-main : tie.Need-sub-main
 sub-main c =
@@ -100,11 +102,12 @@ returns-2 c =
 
 whole-requires : tie.Need-whole-requires
 whole-requires c κs =
+    let test = c .before .before .before in
     let told = c .before .before .before .before .before .before .before .before .before .before in
     let z = main-at told in
     record {
       known = z .known;
-      room = omega (arith, c .before .before .before .if1 .left, c .before .before .before .before .wide .ensures, c .before .before .before .before .before .size .ensures);
+      room = omega (arith, test .if1 .left, test .before .wide .ensures, test .before .before .size .ensures);
     }
 
 same-length : tie.Need-same-length

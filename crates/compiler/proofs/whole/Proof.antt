@@ -69,7 +69,8 @@ mul-t12 c = search needs
 
 element-copy-out-t23 : tie.Need-element-copy-out-t23
 element-copy-out-t23 c =
-    let s = c .before .before .before .before .before .before .before .before .before .before .before .before .before .before .before .before .before .before .before .before in
+    let main = c .before .before .before .before .before .before .before in
+    let s = main .before .before .before .before .before .before .before .before .before .before .before .before .before in
     indexed (s .pre .known)
 
 same-length : tie.Need-same-length
@@ -86,8 +87,8 @@ returns c =
     let h = s .pre .known in
     let T = tree (a .table .now) (a .k) in (
       whole-answer T _ _ (takes-at h) (gives-at h) _ (words .inputs .ensures .0) (a .netlist .now) [] _ _ [] _ (main .emit .ensures),
-      whole-written T _ (getD (a .outs .now) (a .k) 0) (takes-at h) (gives-at h) _ (words .inputs .ensures .0) _ _ _ _ _ _ (main .emit .ensures)
-          (first .put .ensures) (words .inputs .ensures .1) (last .front .ensures),
+      whole-written T _ (getD (a .outs .now) (a .k) 0) (takes-at h) (gives-at h) _ (words .inputs .ensures .0) _ _ _ _ _ _
+          (main .emit .ensures) (first .put .ensures) (words .inputs .ensures .1) (last .front .ensures),
     )
 
 pub whole-spec : {M : Type 1} → statement M

@@ -12,7 +12,10 @@ use Rattle.compiler.proofs.blocks.rec.Reads as rec
 use Rattle.compiler.proofs.blocks.+emit+fork+ite+par+rec+seq.Lts-rec as rec-lts
 use Rattle.compiler.proofs.blocks.seq.Reads as seq
 use Rattle.compiler.proofs.blocks.+emit+fork+ite+par+rec+seq.Lts-seq as seq-lts
-use Rattle.compiler.proofs.blocks.+emit+fork+ite+par+rec+seq.Proof.Members.{μ-emit, emit-at, emit-calls, μ-fork, fork-at, fork-calls, μ-ite, ite-at, ite-calls, μ-par, par-at, par-calls, μ-rec, rec-at, rec-calls, μ-seq, seq-at, seq-calls}
+use Rattle.compiler.proofs.blocks.+emit+fork+ite+par+rec+seq.Proof.Members.{μ-emit, μ-fork, μ-ite, μ-par, μ-rec, μ-seq}
+use Rattle.compiler.proofs.blocks.+emit+fork+ite+par+rec+seq.Proof.Members.{emit-at, fork-at, ite-at, par-at, rec-at, seq-at}
+use Rattle.compiler.proofs.blocks.+emit+fork+ite+par+rec+seq.Proof.Members.{emit-calls, fork-calls, ite-calls}
+use Rattle.compiler.proofs.blocks.+emit+fork+ite+par+rec+seq.Proof.Members.{par-calls, rec-calls, seq-calls}
 use Rattle.compiler.proofs.blocks.+emit+fork+ite+par+rec+seq.Proof.Emit as emit-walk
 use Rattle.compiler.proofs.blocks.+emit+fork+ite+par+rec+seq.Proof.Fork as fork-walk
 use Rattle.compiler.proofs.blocks.+emit+fork+ite+par+rec+seq.Proof.Ite as ite-walk

@@ -54,7 +54,8 @@ returns c =
     let s2 = s3 .before .before .before .before in
     let s1 = s2 .before .before .before .before in
     let a = s1 .before .before .before .args in
-    ending-group (a .netlist .now) (a .at) (a .tested) (a .left) (a .again) _ _ _ _ _ (s1 .rise .ensures) (s2 .put .ensures) (s3 .put2 .ensures) (s4 .put3 .ensures) (s5 .put4 .ensures)
+    ending-group (a .netlist .now) (a .at) (a .tested) (a .left) (a .again) _ _ _ _ _
+    (s1 .rise .ensures) (s2 .put .ensures) (s3 .put2 .ensures) (s4 .put3 .ensures) (s5 .put4 .ensures)
 
 pub ending-spec : {M : Type 1} → statement M
 ending-spec =

@@ -57,7 +57,8 @@ returns c =
     let s2 = s3 .before .before .before .before in
     let s1 = s2 .before .before .before .before in
     let a = s1 .before .before .before .args in
-    front-group (a .netlist .now) (a .n) (a .done) _ _ _ _ _ (s1 .put .ensures) (s2 .put2 .ensures) (s3 .put3 .ensures) (s4 .put4 .ensures) (s5 .put5 .ensures)
+    front-group (a .netlist .now) (a .n) (a .done) _ _ _ _ _
+    (s1 .put .ensures) (s2 .put2 .ensures) (s3 .put3 .ensures) (s4 .put4 .ensures) (s5 .put5 .ensures)
 
 pub front-spec : {M : Type 1} → statement M
 front-spec =

@@ -1,15 +1,13 @@
 -- Proof: `leaves::operation` meets its contract: each branch puts the cell that the definition picks. Mathematics in `proofs.Operations`.
 -- Assumes nothing.
 use Prim.Native.Nat.{ℕ}
-use mathlib.Core.Path.{sym, ap, _∙_}
-use mathlib.Core.List.{[], _∷_}
+use mathlib.Core.Path.{_≡_, sym, ap, _∙_}
 use native.Mathlib.Omega.{arith}
 use lib.ListN.{getD}
 use borrow.Author.Needs.{needs}
 use Rattle.circuit.specs.Cells.{cell}
-use Rattle.compiler.specs.Writing.{written}
-use Rattle.compiler.proofs.Operations.{operation-const, operation-copy, operation-two, operation-one}
-use Rattle.circuit.specs.Cells.{Cell}
+use Rattle.circuit.specs.Blocks.{operationCell}
+use Rattle.compiler.proofs.Operations.{operation-const, operation-copy, operation-two, operation-one, instead}
 use Rattle.compiler.proofs.leaves.operation.Statement.{statement}
 use Rattle.compiler.proofs.leaves.operation.Tie as tie
 
@@ -53,7 +51,7 @@ returns c =
     let s = c .before .before in
     let b = s .before .before in
     let a = b .before .before .before .args in
-    s .put .ensures ∙ ap (λ (x : Cell). written (a .netlist .now) (a .at) (x ∷ [])) (sym (operation-const (a .kind) (a .value) (a .t5) (b .before .if1 .taken) (b .if2 .taken)))
+    instead (a .netlist .now) (a .at) (operation-const (a .kind) (a .value) (a .t5) (b .before .if1 .taken) (b .if2 .taken)) (s .put .ensures)
 
 same-length-2 : tie.Need-same-length-2
 same-length-2 c = search needs
@@ -63,8 +61,10 @@ returns-2 c =
     let s = c .before .before in
     let b = s .before .before .before in
     let a = b .before .before .before .args in
-    s .put2 .ensures ∙ (ap (λ (i : ℕ). written (a .netlist .now) (a .at) (cell 12 (getD (a .t5) i 0) 0 0 ∷ [])) (s .before .wide .ensures)
-    ∙ ap (λ (x : Cell). written (a .netlist .now) (a .at) (x ∷ [])) (sym (operation-copy (a .kind) (a .value) (a .t5) (b .before .if1 .taken) (b .if2 .left))))
+    let e : operationCell (a .kind) (a .value) (a .t5) ≡ cell 12 (getD (a .t5) (s .before .wide .result) 0) 0 0 =
+    operation-copy (a .kind) (a .value) (a .t5) (b .before .if1 .taken) (b .if2 .left)
+    ∙ ap (λ (i : ℕ). cell 12 (getD (a .t5) i 0) 0 0) (sym (s .before .wide .ensures)) in
+    instead (a .netlist .now) (a .at) e (s .put2 .ensures)
 
 same-length-3 : tie.Need-same-length-3
 same-length-3 c = search needs
@@ -74,7 +74,7 @@ returns-3 c =
     let s = c .before .before in
     let b = s .before .before in
     let a = b .before .before .before .args in
-    s .put3 .ensures ∙ ap (λ (x : Cell). written (a .netlist .now) (a .at) (x ∷ [])) (sym (operation-two (a .kind) (a .value) (a .t5) (b .before .if1 .left) (b .if3 .taken)))
+    instead (a .netlist .now) (a .at) (operation-two (a .kind) (a .value) (a .t5) (b .before .if1 .left) (b .if3 .taken)) (s .put3 .ensures)
 
 same-length-4 : tie.Need-same-length-4
 same-length-4 c = search needs
@@ -84,7 +84,7 @@ returns-4 c =
     let s = c .before .before in
     let b = s .before .before in
     let a = b .before .before .before .args in
-    s .put4 .ensures ∙ ap (λ (x : Cell). written (a .netlist .now) (a .at) (x ∷ [])) (sym (operation-one (a .kind) (a .value) (a .t5) (b .before .if1 .left) (b .if3 .left)))
+    instead (a .netlist .now) (a .at) (operation-one (a .kind) (a .value) (a .t5) (b .before .if1 .left) (b .if3 .left)) (s .put4 .ensures)
 
 pub operation-spec : {M : Type 1} → statement M
 operation-spec =

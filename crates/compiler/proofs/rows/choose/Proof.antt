@@ -2,9 +2,11 @@
 -- Invariant: the first j choices are written. Measure: what is left of n. Mathematics in `proofs.Turns`. Assumes nothing.
 use Prim.Native.Nat.{ℕ, _-_, _≤_}
 use mathlib.Core.Path.{_≡_, ap, _∙_}
+use mathlib.Core.List.{List}
 use native.Mathlib.Omega.{arith}
 use lib.ListN.{length, take}
 use borrow.Author.Needs.{needs}
+use Rattle.circuit.specs.Cells.{Cell}
 use Rattle.circuit.specs.Pieces.{choices}
 use Rattle.compiler.specs.Writing.{written}
 use Rattle.compiler.proofs.Placing.{length-written, written-none}
@@ -13,7 +15,8 @@ use Rattle.compiler.proofs.rows.choose.Statement.{statement}
 use Rattle.compiler.proofs.rows.choose.Tie as tie
 
 abbrev Inv-loop : tie.InvT-loop
-Inv-loop netlist₀ at bit n first second j₀ netlist j = (j ≤ n) × (netlist ≡ written netlist₀ at (choices bit (take j first) (take j second)))
+Inv-loop netlist₀ at bit n first second j₀ netlist j =
+    (j ≤ n) × (netlist ≡ written netlist₀ at (choices bit (take j first) (take j second)))
 
 abbrev μ-loop : tie.MeasureT-loop
 μ-loop netlist₀ at bit n first second j₀ netlist j = n - j
@@ -59,7 +62,8 @@ loop-again c =
     let p = s .before .before .pre in (
       omega (arith, w .before .loop-test .taken),
       choices-turn (a .netlist .now) (a .at) 16 (s .loop .j) (w .wide .result) (w .wide .ensures) (s .loop .netlist) _ (a .t4)
-          (p .2) (omega (arith, p .0, w .before .loop-test .taken)) (a .bit) (a .t5) (p .3) (s .loop .inv .1) (c .before .before .put .ensures),
+          (p .2) (omega (arith, p .0, w .before .loop-test .taken)) (a .bit) (a .t5) (p .3) (s .loop .inv .1)
+          (c .before .before .put .ensures),
     )
 
 wires-requires : tie.Need-wires-requires Inv-loop μ-loop
@@ -73,7 +77,8 @@ returns c =
     let s = c .before .before .loop in
     let a = c .before .before .before .before .args in
     let e : s .j ≡ a .n = omega arith in
-    (c .wires .ensures, s .inv .1 ∙ ap (λ (n : ℕ). written (a .netlist .now) (a .at) (choices (a .bit) (take n (a .t4)) (take n (a .t5)))) e)
+    let row : ℕ → List Cell = λ n. choices (a .bit) (take n (a .t4)) (take n (a .t5)) in
+    (c .wires .ensures, s .inv .1 ∙ ap (λ (n : ℕ). written (a .netlist .now) (a .at) (row n)) e)
 
 pub choose-spec : {M : Type 1} → statement M
 choose-spec =

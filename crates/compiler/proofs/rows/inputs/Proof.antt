@@ -38,8 +38,10 @@ loop-less c = omega arith
 loop-again : tie.Need-loop-again Inv-loop μ-loop
 loop-again c =
     let s = c .before .before .before .before .before in
-    let a = s .before .before .args in
-    (omega (arith, c .before .before .before .before .loop-test .taken), inputs-turn (a .netlist .now) (s .loop .netlist) _ 1 (s .loop .j) (s .loop .inv .1) (c .before .before .put .ensures))
+    let a = s .before .before .args in (
+      omega (arith, c .before .before .before .before .loop-test .taken),
+      inputs-turn (a .netlist .now) (s .loop .netlist) _ 1 (s .loop .j) (s .loop .inv .1) (c .before .before .put .ensures),
+    )
 
 wires-requires : tie.Need-wires-requires Inv-loop μ-loop
 wires-requires c κs = omega arith

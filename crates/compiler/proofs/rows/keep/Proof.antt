@@ -1,5 +1,6 @@
 -- Proof: `rows::keep` meets its contract.
--- Invariant: the first j pairs are written, and the row holds their registers. Measure: what is left of n. Mathematics in `proofs.Turns`. Assumes nothing.
+-- Invariant: the first j pairs are written, and the row holds their registers. Measure: what is left of n. Mathematics in
+-- `proofs.Turns`. Assumes nothing.
 use Prim.Native.Nat.{ℕ, _+_, _*_, _-_, _≤_, _<_}
 use mathlib.Core.Path.{_≡_, refl, ap, _∙_}
 use mathlib.Core.List.{[]}

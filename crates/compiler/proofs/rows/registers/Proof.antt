@@ -52,7 +52,8 @@ loop-again c =
     let a = s .before .before .args in (
       omega (arith, w .before .loop-test .taken),
       registers-turn (a .netlist .now) (a .at) 16 (s .loop .j) (w .wide .result) (w .wide .ensures) (s .loop .netlist) _ (a .t3)
-          (s .before .before .pre .2) (omega (arith, s .before .before .pre .0, w .before .loop-test .taken)) (s .loop .inv .1) (c .before .before .put .ensures),
+          (s .before .before .pre .2) (omega (arith, s .before .before .pre .0, w .before .loop-test .taken)) (s .loop .inv .1)
+          (c .before .before .put .ensures),
     )
 
 same-length : tie.Need-same-length Inv-loop μ-loop

@@ -39,8 +39,10 @@ loop-less c = omega arith
 
 loop-again : tie.Need-loop-again Inv-loop μ-loop
 loop-again c =
-    let s = c .before .before in
-    (omega arith, wires-turn (s .before .args .at) (s .loop .j) (c .wide .result) (s .loop .row) (c .wide .ensures) (omega arith) (s .loop .inv .1))
+    let s = c .before .before in (
+      omega arith,
+      wires-turn (s .before .args .at) (s .loop .j) (c .wide .result) (s .loop .row) (c .wide .ensures) (omega arith) (s .loop .inv .1),
+    )
 
 returns : tie.Need-returns Inv-loop μ-loop
 returns c =

@@ -1,4 +1,5 @@
--- Proof: the needs of `blocks::emit`: each kind goes to its function. Mathematics in `proofs.Plans` and `proofs.Operations`. Assumes nothing.
+-- Proof: the needs of `blocks::emit`: each kind goes to its function. Mathematics in `proofs.Plans` and `proofs.Operations`.
+-- Assumes nothing.
 use Prim.Native.Nat.{ℕ}
 use mathlib.Core.Path.{refl, sym, _∙_}
 use native.Mathlib.Omega.{arith}
@@ -51,7 +52,9 @@ leaf-requires t c κs =
     let s = kind .before .before .before in
     let e = kind .number .ensures in
     let no = none .match .rest in
-    let z = leaf-plan (s .pre .1 .known) (λ q. no .0 .0 .0 .1 (e ∙ q)) (λ q. no .0 .0 .1 (e ∙ q)) (λ q. no .0 .1 (e ∙ q)) (λ q. no .1 (e ∙ q)) in
+    let z =
+    leaf-plan (s .pre .1 .known) (λ q. no .0 .0 .0 .1 (e ∙ q)) (λ q. no .0 .0 .1 (e ∙ q)) (λ q. no .0 .1 (e ∙ q))
+    (λ q. no .1 (e ∙ q)) in
     let y = s .pre .1 .room in (
       omega (arith, z .sizes),
       λ l n. rw (value .number2 .ensures) (z .value-few (rw e at l) (λ q. n (e ∙ q))),
@@ -111,6 +114,8 @@ returns-5 t c =
     let s = kind .before .before .before in
     let e = kind .number .ensures in
     let no = none .match .rest in
-    let z = leaf-plan (s .pre .1 .known) (λ q. no .0 .0 .0 .1 (e ∙ q)) (λ q. no .0 .0 .1 (e ∙ q)) (λ q. no .0 .1 (e ∙ q)) (λ q. no .1 (e ∙ q)) in
+    let z =
+    leaf-plan (s .pre .1 .known) (λ q. no .0 .0 .0 .1 (e ∙ q)) (λ q. no .0 .0 .1 (e ∙ q)) (λ q. no .0 .1 (e ∙ q))
+    (λ q. no .1 (e ∙ q)) in
     rw (z .decoded) (leaf-emits _ _ _ _ _ _ _ _ _ _ (z .fits) (made .leaf .ensures .0)
     (made .leaf .ensures .1 ∙ rw (e, value .number2 .ensures) refl))

@@ -27,7 +27,9 @@ module _ (t : ℕ) (c : lts.After-operand3 (fork-calls t) (fork-at t) reads.Post
 
   room : Room (entry .args .netlist .now) (entry .args .at) (size (tree (entry .args .table .now) (c .before .before .operand .result)) + 7
       + size (tree (entry .args .table .now) (c .before .operand2 .result)) + size (tree (entry .args .table .now) (c .operand3 .result)))
-  room = fork-room _ _ _ _ _ _ _ (c .before .before .operand .ensures) (c .before .operand2 .ensures) (c .operand3 .ensures) (entry .pre .1 .room)
+  room =
+      fork-room _ _ _ _ _ _ _ (c .before .before .operand .ensures) (c .before .operand2 .ensures) (c .operand3 .ensures)
+      (entry .pre .1 .room)
 
 pub operand-requires : (t : ℕ) → lts.Need-operand-requires (fork-calls t) (fork-at t) reads.Post
 operand-requires t c κs =
@@ -94,7 +96,7 @@ emit-requires-2 t c κs =
       record {
         known = z .yes .known;
         room = omega (arith, test .emit .ensures .next, test .emit .kept .1 .1 .1 .1 .0, gated .gates .kept .0);
-        sixteen = s .pre .1 .sixteen .1;
+        sixteen = omega (arith, s .pre .1 .sixteen .0, s .pre .1 .sixteen .1);
       },
     )
 
@@ -119,8 +121,15 @@ emit-requires-3 t c κs =
       omega (arith, s .pre .0),
       record {
         known = z .no .known;
-        room = omega (arith, test .emit .ensures .next, test .emit .kept .1 .1 .1 .1 .0, gated .gates .kept .0, yes .emit2 .ensures .next, yes .emit2 .kept .1 .1 .1 .1 .0);
-        sixteen = s .pre .1 .sixteen .1;
+        room = omega (
+          arith,
+          test .emit .ensures .next,
+          test .emit .kept .1 .1 .1 .1 .0,
+          gated .gates .kept .0,
+          yes .emit2 .ensures .next,
+          yes .emit2 .kept .1 .1 .1 .1 .0,
+        );
+        sixteen = omega (arith, s .pre .1 .sixteen .0, s .pre .1 .sixteen .1);
       },
     )
 

@@ -89,19 +89,74 @@ abbrev pub seq-below : ℕ → In 4 seq-kinds.ps
 seq-below t = and 4 seq-kinds.ps (falls 4 seq-kinds.ps _<_ μ-seq t) seq.Pre
 
 abbrev pub emit-calls : ℕ → emit-lts.Claims
-emit-calls t = (number-reads.Asked, number-reads.Learnt, seq-below t, seq.Post, par-below t, par.Post, ite-below t, ite.Post, rec-below t, rec.Post, leaf-reads.Asked, leaf-reads.Learnt)
+emit-calls t = (
+  number-reads.Asked,
+  number-reads.Learnt,
+  seq-below t,
+  seq.Post,
+  par-below t,
+  par.Post,
+  ite-below t,
+  ite.Post,
+  rec-below t,
+  rec.Post,
+  leaf-reads.Asked,
+  leaf-reads.Learnt,
+)
 
 abbrev pub fork-calls : ℕ → fork-lts.Claims
 fork-calls t = (operand-reads.Asked, operand-reads.Learnt, emit-below t, emit.Post, gates-reads.Asked, gates-reads.Learnt)
 
 abbrev pub ite-calls : ℕ → ite-lts.Claims
-ite-calls t = (keep-reads.Asked, keep-reads.Learnt, fork-below t, fork.Post, put-reads.Asked, put-reads.Learnt, choose-reads.Asked, choose-reads.Learnt)
+ite-calls t = (
+  keep-reads.Asked,
+  keep-reads.Learnt,
+  fork-below t,
+  fork.Post,
+  put-reads.Asked,
+  put-reads.Learnt,
+  choose-reads.Asked,
+  choose-reads.Learnt,
+)
 
 abbrev pub par-calls : ℕ → par-lts.Claims
-par-calls t = (operand-reads.Asked, operand-reads.Learnt, emit-below t, emit.Post, put-reads.Asked, put-reads.Learnt, join-reads.Asked, join-reads.Learnt)
+par-calls t = (
+  operand-reads.Asked,
+  operand-reads.Learnt,
+  emit-below t,
+  emit.Post,
+  put-reads.Asked,
+  put-reads.Learnt,
+  join-reads.Asked,
+  join-reads.Learnt,
+)
 
 abbrev pub rec-calls : ℕ → rec-lts.Claims
-rec-calls t = (put-reads.Asked, put-reads.Learnt, wires-reads.Asked, wires-reads.Learnt, choose-reads.Asked, choose-reads.Learnt, keep-reads.Asked, keep-reads.Learnt, fork-below t, fork.Post, ending-reads.Asked, ending-reads.Learnt, registers-reads.Asked, registers-reads.Learnt)
+rec-calls t = (
+  put-reads.Asked,
+  put-reads.Learnt,
+  wires-reads.Asked,
+  wires-reads.Learnt,
+  choose-reads.Asked,
+  choose-reads.Learnt,
+  keep-reads.Asked,
+  keep-reads.Learnt,
+  fork-below t,
+  fork.Post,
+  ending-reads.Asked,
+  ending-reads.Learnt,
+  registers-reads.Asked,
+  registers-reads.Learnt,
+)
 
 abbrev pub seq-calls : ℕ → seq-lts.Claims
-seq-calls t = (operand-reads.Asked, operand-reads.Learnt, emit-below t, emit.Post, rise-reads.Asked, rise-reads.Learnt, put-reads.Asked, put-reads.Learnt)
+seq-calls t = (
+  operand-reads.Asked,
+  operand-reads.Learnt,
+  emit-below t,
+  emit.Post,
+  rise-reads.Asked,
+  rise-reads.Learnt,
+  put-reads.Asked,
+  put-reads.Learnt,
+)

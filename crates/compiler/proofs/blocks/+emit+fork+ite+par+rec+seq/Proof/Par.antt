@@ -19,7 +19,9 @@ module _ (t : ℕ) (c : lts.After-operand2 (par-calls t) (par-at t) reads.Post) 
 
   plan : ParPlan (known .width) (entry .args .table .now) (entry .args .ins .now) (entry .args .outs .now) (entry .args .k)
       (c .before .operand .result) (c .operand2 .result)
-  plan = par-plan known (c .before .operand .result) (c .operand2 .result) (c .before .operand .ensures) (c .operand2 .ensures) (entry .pre .1 .1)
+  plan =
+      par-plan known (c .before .operand .result) (c .operand2 .result) (c .before .operand .ensures) (c .operand2 .ensures)
+      (entry .pre .1 .1)
 
 pub operand-requires : (t : ℕ) → lts.Need-operand-requires (par-calls t) (par-at t) reads.Post
 operand-requires t c κs =
@@ -36,7 +38,6 @@ emit-requires t c κs =
     let ops = c .before in
     let z = plan t ops in
     let s = entry t ops in
-    let y = s .pre .1 .0 .room in
     (omega (arith, s .pre .0), record { known = z .first .known; room = omega arith; sixteen = s .pre .1 .0 .sixteen })
 
 pub emit-requires-2 : (t : ℕ) → lts.Need-emit-requires-2 (par-calls t) (par-at t) reads.Post
@@ -44,8 +45,7 @@ emit-requires-2 t c κs =
     let first = c .before .before .before .before in
     let ops = first .before .before in
     let z = plan t ops in
-    let s = entry t ops in
-    let y = s .pre .1 .0 .room in (
+    let s = entry t ops in (
       omega (arith, s .pre .0),
       record {
         known = z .second .known;
@@ -61,7 +61,6 @@ put-requires t c κs =
     let ops = first .before .before in
     let z = plan t ops in
     let s = entry t ops in
-    let y = s .pre .1 .0 .room in
     omega (
       arith,
       first .emit .ensures .next,
@@ -77,7 +76,6 @@ add-t26 t c =
     let ops = first .before .before in
     let z = plan t ops in
     let s = entry t ops in
-    let y = s .pre .1 .0 .room in
     omega (arith, first .emit .ensures .next, second .emit2 .ensures .next)
 
 pub mul-join : (t : ℕ) → lts.Need-mul-join (par-calls t) (par-at t) reads.Post
@@ -108,8 +106,7 @@ join-requires t c κs =
     let first = second .before .before .before .before .before in
     let ops = first .before .before in
     let z = plan t ops in
-    let s = entry t ops in
-    let y = s .pre .1 .0 .room in (
+    let s = entry t ops in (
       omega (arith, z .few, z .gives-f, z .gives-g),
       handed-long (z .first .typed) _ _ _ (s .pre .1 .0 .sixteen) (first .emit .ensures),
       handed-long (z .second .typed) _ _ _ (s .pre .1 .0 .sixteen) (second .emit2 .ensures),
@@ -130,6 +127,5 @@ returns t c =
     let ops = first .before .before in
     let z = plan t ops in
     let s = entry t ops in
-    let y = s .pre .1 .0 .room in
     rw (z .decoded) (par-emits (z .first .typed) (z .second .typed) (z .same) (z .few) _ _ _ (s .pre .1 .0 .sixteen) _ _ _ _ _ _
     (first .emit .ensures) (second .emit2 .ensures) (last .put .ensures) _ (c .join .ensures ∙ rw (z .gives-f, z .gives-g) refl))

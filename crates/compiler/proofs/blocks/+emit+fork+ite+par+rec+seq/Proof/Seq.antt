@@ -19,7 +19,9 @@ module _ (t : ℕ) (c : lts.After-operand2 (seq-calls t) (seq-at t) reads.Post) 
 
   plan : SeqPlan (known .width) (entry .args .table .now) (entry .args .ins .now) (entry .args .outs .now) (entry .args .k)
       (c .before .operand .result) (c .operand2 .result)
-  plan = seq-plan known (c .before .operand .result) (c .operand2 .result) (c .before .operand .ensures) (c .operand2 .ensures) (entry .pre .1 .1)
+  plan =
+      seq-plan known (c .before .operand .result) (c .operand2 .result) (c .before .operand .ensures) (c .operand2 .ensures)
+      (entry .pre .1 .1)
 
 pub operand-requires : (t : ℕ) → lts.Need-operand-requires (seq-calls t) (seq-at t) reads.Post
 operand-requires t c κs =
@@ -36,7 +38,6 @@ emit-requires t c κs =
     let ops = c .before in
     let z = plan t ops in
     let s = entry t ops in
-    let y = s .pre .1 .0 .room in
     (omega (arith, s .pre .0), record { known = z .first .known; room = omega arith; sixteen = s .pre .1 .0 .sixteen })
 
 pub rise-requires : (t : ℕ) → lts.Need-rise-requires (seq-calls t) (seq-at t) reads.Post
@@ -45,7 +46,6 @@ rise-requires t c κs =
     let ops = first .before .before in
     let z = plan t ops in
     let s = entry t ops in
-    let y = s .pre .1 .0 .room in
     omega (arith, first .emit .ensures .next, first .emit .kept .1 .1 .1 .1 .0)
 
 pub add-emit : (t : ℕ) → lts.Need-add-emit (seq-calls t) (seq-at t) reads.Post
@@ -54,7 +54,6 @@ add-emit t c =
     let ops = first .before .before in
     let z = plan t ops in
     let s = entry t ops in
-    let y = s .pre .1 .0 .room in
     omega (arith, first .emit .ensures .next)
 
 pub add-emit-2 : (t : ℕ) → lts.Need-add-emit-2 (seq-calls t) (seq-at t) reads.Post
@@ -63,7 +62,6 @@ add-emit-2 t c =
     let ops = first .before .before in
     let z = plan t ops in
     let s = entry t ops in
-    let y = s .pre .1 .0 .room in
     omega (arith, first .emit .ensures .next)
 
 pub emit-requires-2 : (t : ℕ) → lts.Need-emit-requires-2 (seq-calls t) (seq-at t) reads.Post
@@ -72,8 +70,7 @@ emit-requires-2 t c κs =
     let first = risen .before .before .before .before .before in
     let ops = first .before .before in
     let z = plan t ops in
-    let s = entry t ops in
-    let y = s .pre .1 .0 .room in (
+    let s = entry t ops in (
       omega (arith, s .pre .0),
       record {
         known = z .second .known;
@@ -90,7 +87,6 @@ put-requires t c κs =
     let ops = first .before .before in
     let z = plan t ops in
     let s = entry t ops in
-    let y = s .pre .1 .0 .room in
     omega (
       arith,
       first .emit .ensures .next,
@@ -107,7 +103,6 @@ add-t27 t c =
     let ops = first .before .before in
     let z = plan t ops in
     let s = entry t ops in
-    let y = s .pre .1 .0 .room in
     omega (arith, first .emit .ensures .next, second .emit2 .ensures .next)
 
 pub same-length : (t : ℕ) → lts.Need-same-length (seq-calls t) (seq-at t) reads.Post
@@ -127,6 +122,5 @@ returns t c =
     let ops = first .before .before in
     let z = plan t ops in
     let s = entry t ops in
-    let y = s .pre .1 .0 .room in
     rw (z .decoded) (seq-emits (z .first .typed) (z .second .typed) (z .meet) _ _ _ (s .pre .1 .0 .sixteen) _ _ _ _ _ _ _
     (first .emit .ensures) (risen .rise .ensures) (second .emit2 .ensures) (last .put .ensures))
