@@ -1,6 +1,7 @@
-// Words of 1 to 32 bits, held in u32: document 01's operations 13 to 22, and which numbers are words.
-// Every function takes every number: an operand past the width is computed with as the definitions say.
-// Sums and differences wrap at 32 bits and are then reduced to the width. Document 01: "Term tables".
+// Words of 1 to 32 bits, held in u32: the operations 13 to 22, and which numbers are words.
+// Every function takes every number: with an operand past the width it computes as defined.
+// Sums and differences wrap at 32 bits and are then reduced to the width.
+// Document 01: "Term tables".
 ghost use mathlib.Core.Path.{_≡_};
 ghost use Prim.Native.Nat.{_-_, _%_, _^_, _≤_};
 ghost use lib.Dec.{ltb};

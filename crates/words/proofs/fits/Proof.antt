@@ -1,6 +1,5 @@
 -- Proof: `words::fits` meets its contract: the compared numbers are those of the definition. Assumes nothing.
 use mathlib.Core.Path.{ap}
-use Prim.Native.Nat.{ℕ}
 use lib.Dec.{ltb}
 use borrow.Author.Needs.{needs}
 use Rattle.words.proofs.fits.Statement.{statement}

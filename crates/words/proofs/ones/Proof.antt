@@ -1,4 +1,5 @@
--- Proof: `words::ones` meets its contract: a power of two is at least 1, and one less than 2 ^ 32 at most is a number of 32 bits. Assumes nothing.
+-- Proof: `words::ones` meets its contract:
+-- a power of two is at least 1, and one less than 2 ^ 32 at most is a number of 32 bits. Assumes nothing.
 use mathlib.Core.Path.{sym, subst}
 use Prim.Native.Nat.{ℕ, _-_, _^_, _<_}
 use native.Mathlib.Omega.{arith}

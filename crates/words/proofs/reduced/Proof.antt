@@ -1,6 +1,5 @@
 -- Proof: `words::reduced` meets its contract: an `and` with the largest word is a remainder. Assumes nothing.
 use mathlib.Core.Path.{ap, _∙_}
-use Prim.Native.Nat.{ℕ}
 use lib.Bits.{bitAnd, and-mask}
 use borrow.Author.Needs.{needs}
 use Rattle.words.proofs.reduced.Statement.{statement}
