@@ -17,6 +17,7 @@ use Rattle.verilog.specs.Spelling.{bytes, digitsWithin, digits, rows, sp
 use Rattle.verilog.specs.Lines.{declaration, operationLine, clockLine}
 use Rattle.verilog.specs.Texts.{textOf}
 use Rattle.verilog.specs.Writing.{outputsFit, portsFit, writeVerdict, writtenOf, writtenNumbers}
+use Rattle.verilog.specs.Messages.{refusedLine}
 use Rattle.verilog.specs.Numbers.{Result, numbers, notNumbers, readFrom, numbersIn}
 
 -- One output wire, in an array of 16.
@@ -154,3 +155,8 @@ lists-read : map (λ (s : String). numbersIn (bytes s))
     notNumbers ∷ notNumbers ∷ notNumbers ∷ notNumbers ∷ notNumbers ∷ notNumbers ∷ []
 unfolding readFrom numbersIn
 lists-read = refl
+
+-- A line for a refusal.
+refusal-line : refusedLine 5 1 ≡ bytes "refused 5 at 1\n"
+unfolding digitsWithin digits rows spelled refusedLine
+refusal-line = refl

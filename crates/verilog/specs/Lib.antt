@@ -4,4 +4,5 @@ pub mod Spelling
 pub mod Lines
 pub mod Texts
 pub mod Writing
+pub mod Messages
 pub mod Numbers

@@ -1,6 +1,7 @@
 // A netlist as Verilog text in lent memory, and lists of decimal numbers read from text.
 // Document 01: "The Verilog text".
 mod lines;
+pub mod messages;
 pub mod numbers;
 mod pieces;
 mod ports;

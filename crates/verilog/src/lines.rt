@@ -21,7 +21,7 @@ ghost use Rattle.verilog.specs.Texts.{
 };
 
 // The blanks of a line about a port.
-fn port_blanks(width: u32, n: u32, x: u32) -> Blanks
+pub fn port_blanks(width: u32, n: u32, x: u32) -> Blanks
     requires { ⌜ 0 < width ⌝ }
     ensures { λ r. ⌜ r ≡ blanksOf width n x ⌝ }
 {
