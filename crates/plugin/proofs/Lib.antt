@@ -1,0 +1,3 @@
+-- What the proofs of several functions cite, and what follows from the contracts.
+pub mod Filled
+pub mod Unique
