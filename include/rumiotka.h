@@ -8,6 +8,8 @@
  *     length beside it says, or the brackets do. It is not null, even where the length is 0.
  *   - What a call writes (the arrays that are not const) overlaps nothing else that it is given,
  *     and no other thread uses it meanwhile.
+ *   - There is stack for the call, of which no proof speaks. The deepest tables that are accepted
+ *     take rumiotka_compile 320 KB, rumiotka_evaluate 64 KB, the others less than 8 KB (measured).
  * Nothing more is asked: whatever the numbers are, each call ends and writes its answer. The
  * functions keep nothing between calls.
  *
