@@ -9,7 +9,7 @@ use Rattle.meaning.specs.Choices.{or}
 use Rattle.circuit.specs.Cells.{kindAt, cellCount, bitKind, wordKind}
 use Rattle.circuit.specs.Netlists.{numberFits, wireFits, sortFits, allPorts, cellRefusal, netlistVerdict}
 use Rattle.circuit.proofs.Verdicts.{not-refused}
-use Rattle.circuit.proofs.Passes.{refused-none}
+use Rattle.circuit.proofs.Refusals.{refused-none}
 use Rattle.circuit.proofs.Checked.{checked}
 
 pub record Passed (w : ℕ) (net : List ℕ) (n : ℕ) : Type 0 where

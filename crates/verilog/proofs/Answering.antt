@@ -15,7 +15,7 @@ use Rattle.meaning.specs.Checks.{fewWords}
 use Rattle.meaning.proofs.Tests.{both}
 use Rattle.circuit.specs.Cells.{cellCount}
 use Rattle.circuit.specs.Netlists.{netlistVerdict}
-use Rattle.cells.proofs.Passed.{checked}
+use Rattle.circuit.proofs.Checked.{checked}
 use Rattle.verilog.specs.declared.Written.{Written}
 use Rattle.verilog.specs.declared.Written.the-variants as written
 use Rattle.verilog.specs.Spelling.{Wrote}
