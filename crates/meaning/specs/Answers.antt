@@ -8,9 +8,6 @@ use lib.ListN.{length}
 use Rattle.meaning.specs.declared.Verdict.{Verdict}
 use Rattle.meaning.specs.declared.Verdict.the-variants as verdict
 use Rattle.meaning.specs.declared.Facts.{Facts}
-use Rattle.meaning.specs.declared.End.{End}
-use Rattle.meaning.specs.declared.End.the-variants as end
-use Rattle.meaning.specs.declared.Ran.{Ran}
 use Rattle.meaning.specs.declared.Outcome.{Outcome}
 use Rattle.meaning.specs.declared.Outcome.the-variants as outcome
 use Rattle.meaning.specs.declared.Evaluated.{Evaluated}
@@ -54,11 +51,6 @@ noFacts n p = record {
 
 unfoldable pub factsOf : ℕ → List ℕ → Facts
 factsOf w t = onVerdict (verdictOf w t) (knownFacts t) noFacts
-
--- A run of a term, its words in an array of 16.
-abbrev pub ranOf : Result → Ran
-ranOf unfinished = record { end = end.Unfinished; words = padded 16 [] }
-ranOf (ended c ws) = record { end = end.Ended c; words = padded 16 ws }
 
 -- 11: as many words as the main term takes, each below 2 ^ w.
 abbrev pub wordsFit : ℕ → ℕ → Words → Bool

@@ -21,12 +21,6 @@ pub enum End {
     Ended(u32),
 }
 
-// A run of a term, with its output words, those past the term's own 0.
-pub struct Ran {
-    pub end: End,
-    pub words: [u32; 16],
-}
-
 // The evaluator's answer: o and the cycles, unfinished, or a refusal.
 pub enum Outcome {
     Answered(u32, u32),
