@@ -54,7 +54,7 @@ pub fn check(width: u32, netlist: &[u32]) -> Result<(), Refusal> {
     if !is_width(width) {
         return Err((1, 0));
     }
-    if netlist.is_empty() || !netlist.len().is_multiple_of(4) || netlist.len() > MOST_NUMBERS {
+    if netlist.is_empty() || netlist.len() % 4 != 0 || netlist.len() > MOST_NUMBERS {
         return Err((12, 0));
     }
     for place in 0..netlist.len() / 4 {

@@ -14,8 +14,8 @@
 //! - `program`: what the program prints for its input.
 //!
 //! Besides these, `toolchain` names the five calls so that another implementation can stand in,
-//! `random` makes inputs of every sort, `differ` compares two implementations on whole calls, and
-//! `icarus` compares wires with Icarus Verilog.
+//! `random` makes inputs of every sort, `differ` compares two implementations on whole calls,
+//! `promise` tries demand 3 on one, and `icarus` compares wires with Icarus Verilog.
 
 pub mod cells;
 pub mod compile;
@@ -23,6 +23,7 @@ pub mod differ;
 pub mod evaluate;
 pub mod icarus;
 pub mod program;
+pub mod promise;
 pub mod random;
 pub mod simulate;
 pub mod straight;

@@ -72,7 +72,7 @@ pub fn facts(width: u32, table: &[u32]) -> Result<Facts, Refusal> {
     if !is_width(width) {
         return Err((1, 0));
     }
-    if table.is_empty() || !table.len().is_multiple_of(4) || table.len() > MOST_NUMBERS {
+    if table.is_empty() || table.len() % 4 != 0 || table.len() > MOST_NUMBERS {
         return Err((2, 0));
     }
     let mut facts = Facts { inputs: vec![], outputs: vec![], sizes: vec![] };

@@ -1,9 +1,10 @@
-//! Random calls reach every refusal number, and comparison notices wrong toolchains.
+//! Random calls reach every refusal number, chosen faults show which is judged first, and
+//! comparison notices wrong toolchains.
 
 use model::differ::{compare, outcome};
 use model::icarus;
-use model::random::calls::{call, Call};
-use model::random::Random;
+use model::random::calls::{call, Part};
+use model::random::{faults, Random};
 use model::toolchain::{Model, Toolchain};
 
 /// A toolchain with a wrong deed in three of its calls.
@@ -64,38 +65,47 @@ impl Toolchain for Crooked {
     }
 }
 
-/// Gives the place of a call's part in a tally.
-fn part(call: &Call) -> usize {
-    match call {
-        Call::Evaluate { .. } => 0,
-        Call::Compile { .. } => 1,
-        Call::PowerUp { .. } => 2,
-        Call::Step { .. } => 3,
-        Call::Write { .. } => 4,
-    }
-}
-
 #[test]
 fn calls_reach_every_number_of_every_part() {
     let mut random = Random::new(4);
     let mut seen = [[0u32; 21]; 5];
     for _ in 0..30_000 {
         let call = call(&mut random);
-        seen[part(&call)][outcome(&Model, &call).0[0] as usize] += 1;
+        seen[call.part() as usize][outcome(&Model, &call).0[0] as usize] += 1;
     }
-    let netlist = [0, 1, 12, 13, 14, 15, 16];
-    let reached = [
-        [0, 1, 2, 3, 4, 5, 6, 7, 8, 9, 11].to_vec(),
-        (0..=10).collect(),
-        [&netlist[..], &[11, 17]].concat(),
-        [&netlist[..], &[11, 17, 18]].concat(),
-        [&netlist[..], &[19, 20]].concat(),
-    ];
-    for (part, numbers) in reached.iter().enumerate() {
-        println!("{:?}", seen[part]);
-        for (number, &often) in seen[part].iter().enumerate() {
-            assert_eq!(often > 0, numbers.contains(&number), "part {part}, number {number}");
+    for part in Part::ALL {
+        println!("{part:?} {:?}", seen[part as usize]);
+        for (number, &often) in (0..).zip(&seen[part as usize]) {
+            let due = number == 0 || part.numbers().contains(&number);
+            assert_eq!(often > 0, due, "{part:?}, number {number}");
         }
+    }
+}
+
+/// Numbers that are tried term by term or cell by cell: the lower place decides between them.
+fn placed(number: u32) -> bool {
+    (3..=8).contains(&number) || (13..=16).contains(&number)
+}
+
+#[test]
+fn of_two_faults_the_one_judged_first_is_given() {
+    let mut random = Random::new(7);
+    for (part, faults) in faults::pairs() {
+        let due = part.numbers().iter().find(|number| faults.contains(number)).copied();
+        let mut seen = [0; 21];
+        for _ in 0..40 {
+            let call = faults::call(&mut random, part, faults);
+            assert_eq!(call.part(), part);
+            seen[outcome(&Model, &call).0[0] as usize] += 1;
+        }
+        for number in (0..21).filter(|&number| seen[number as usize] > 0) {
+            let either = faults.iter().all(|&fault| placed(fault)) && faults.contains(&number);
+            assert!(either || Some(number) == due, "{part:?}, {faults:?} gives {number}");
+        }
+        assert!(
+            faults.iter().any(|&fault| !placed(fault))
+                || faults.iter().all(|&f| seen[f as usize] > 0)
+        );
     }
 }
 
@@ -105,7 +115,7 @@ fn a_crooked_toolchain_is_noticed() {
     let mut noticed = [0; 5];
     for _ in 0..5_000 {
         let call = call(&mut random);
-        noticed[part(&call)] += u32::from(compare(&Model, &Crooked, &call).is_err());
+        noticed[call.part() as usize] += u32::from(compare(&Model, &Crooked, &call).is_err());
         assert!(compare(&Model, &Model, &call).is_ok());
     }
     assert!(noticed[0] > 0 && noticed[1] > 0 && noticed[3] > 0);

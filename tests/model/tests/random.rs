@@ -1,6 +1,9 @@
 //! The generators make what they promise: every kind, sharing, loops in loops, registers that read
 //! every way.
 
+use model::program::{respond, MOST_BYTES};
+use model::random::inputs::input;
+use model::random::limits;
 use model::random::netlists::foreign;
 use model::random::tables::accepted;
 use model::random::Random;
@@ -58,6 +61,23 @@ fn tables_hold_everything() {
 }
 
 #[test]
+fn tables_reach_the_limits() {
+    let mut random = Random::new(11);
+    for _ in 0..200 {
+        for (one_more, cells) in [(false, 4096), (true, 4097)] {
+            let table = limits::cells(&mut random, one_more);
+            let facts = model::table::facts(8, &table).expect("well formed");
+            assert_eq!(facts.cells(), cells);
+        }
+        let table = accepted(&mut random, 8, 100, 4096);
+        let filled = limits::filled(&table);
+        assert_eq!(filled.len(), 1024);
+        let cells = |table: &[u32]| model::table::check(8, table).expect("accepted").cells();
+        assert_eq!(cells(&filled), cells(&table));
+    }
+}
+
+#[test]
 fn foreign_netlists_hold_everything() {
     let mut random = Random::new(9);
     let (mut kinds, mut ways) = ([0u32; 23], [0u32; 3]);
@@ -78,4 +98,26 @@ fn foreign_netlists_hold_everything() {
     println!("registers read {ways:?} backward, themselves, forward; kinds {kinds:?}");
     assert!((0..=6).chain(8..=22).all(|kind| kinds[kind] > 1_000));
     assert!(ways.iter().all(|&often| often > 100));
+}
+
+#[test]
+fn inputs_hold_everything() {
+    let mut random = Random::new(10);
+    let (mut refused, mut texts, mut lists, mut over) = ([0u32; 21], 0, 0, 0);
+    for _ in 0..5_000 {
+        let input = input(&mut random);
+        over += u32::from(input.len() > MOST_BYTES);
+        let answer = String::from_utf8(respond(&input)).expect("the answer is ASCII");
+        match answer.strip_prefix("refused ") {
+            Some(rest) => {
+                let number = rest.split(' ').next().expect("a number");
+                refused[number.parse::<usize>().expect("a number")] += 1;
+            }
+            None if answer == "not a number list\n" => lists += 1,
+            None => texts += 1,
+        }
+    }
+    println!("{texts} texts, {lists} no lists, {over} over the limit, refused {refused:?}");
+    assert!(refused[1..=10].iter().all(|&often| often > 10));
+    assert!(texts > 500 && lists > 500 && over > 50);
 }

@@ -5,6 +5,7 @@
 //! again without the others. Many designs share one run of the simulator, which is what costs.
 
 mod bench;
+pub mod command;
 
 use crate::random::netlists::{compiled_by, foreign, Ported};
 use crate::random::streams::{stream, Moment};
@@ -32,6 +33,13 @@ pub struct Design {
     circuit: Ported,
     stream: Vec<Moment>,
     text: String,
+}
+
+impl Design {
+    /// Gives the text that the toolchain wrote.
+    pub fn text(&self) -> &str {
+        &self.text
+    }
 }
 
 /// Makes the design that belongs to a seed and a number.

@@ -4,12 +4,40 @@
 
 use super::netlists::{compiled, foreign, Ported};
 use super::tables::accepted;
-use super::{damage, Random};
+use super::{damage, limits, Random};
 use crate::cells::is_bit;
 use crate::verilog::write;
 use crate::MOST_WORDS;
 
+/// The parts that can be called.
+#[derive(Clone, Copy, Debug, PartialEq)]
+pub enum Part {
+    Evaluate,
+    Compile,
+    PowerUp,
+    Step,
+    Write,
+}
+
+impl Part {
+    /// All parts, in the order of document 01.
+    pub const ALL: [Part; 5] =
+        [Part::Evaluate, Part::Compile, Part::PowerUp, Part::Step, Part::Write];
+
+    /// Gives the refusal numbers of a part in the order of its checks.
+    pub fn numbers(self) -> &'static [u32] {
+        match self {
+            Part::Evaluate => &[1, 2, 3, 4, 5, 6, 7, 8, 9, 11],
+            Part::Compile => &[1, 2, 3, 4, 5, 6, 7, 8, 9, 10],
+            Part::PowerUp => &[1, 12, 13, 14, 15, 16, 17, 11],
+            Part::Step => &[1, 12, 13, 14, 15, 16, 17, 18, 11],
+            Part::Write => &[1, 12, 13, 14, 15, 16, 19, 20],
+        }
+    }
+}
+
 /// A call with all its arguments; `length` is that of the lent buffer.
+#[derive(Debug)]
 pub enum Call {
     Evaluate {
         width: u32,
@@ -44,6 +72,19 @@ pub enum Call {
     },
 }
 
+impl Call {
+    /// Gives the part that is called.
+    pub fn part(&self) -> Part {
+        match self {
+            Call::Evaluate { .. } => Part::Evaluate,
+            Call::Compile { .. } => Part::Compile,
+            Call::PowerUp { .. } => Part::PowerUp,
+            Call::Step { .. } => Part::Step,
+            Call::Write { .. } => Part::Write,
+        }
+    }
+}
+
 /// Makes a call of any part.
 pub fn call(random: &mut Random) -> Call {
     match random.below(5) {
@@ -54,12 +95,19 @@ pub fn call(random: &mut Random) -> Call {
     }
 }
 
-/// Makes a width and a table, at times damaged.
+/// Makes a width and a table, at times damaged or at a limit.
 fn table(random: &mut Random) -> (u32, Vec<u32>) {
-    if random.chance(20) {
-        return damage::table(random);
+    match random.below(50) {
+        0..=9 => return damage::table(random),
+        10 => return (random.width(), limits::cells(random, false)),
+        11 => return (random.width(), limits::cells(random, true)),
+        12 => {
+            let width = random.width();
+            return (width, limits::filled(&accepted(random, width, 100, 4096)));
+        }
+        _ => {}
     }
-    let (width, terms) = (random.width(), random.pick(&[8, 30, 100]) as usize);
+    let (width, terms) = (random.width(), random.pick(&[8, 30, 100, 256]) as usize);
     let table = accepted(random, width, terms, 4096);
     (width, table)
 }
@@ -81,14 +129,16 @@ fn words(random: &mut Random, width: u32, count: u32) -> Vec<u32> {
     words
 }
 
-/// Makes a call of the evaluator; budgets are at times just enough or one too small.
+/// Makes a call of the evaluator; budgets are at times just enough or one too small. The largest
+/// ones go to runs that end soon, as others would use them up.
 fn evaluate(random: &mut Random) -> Call {
     let (width, table) = table(random);
     let inputs = crate::table::facts(width, &table).map_or(2, |facts| facts.inputs[facts.main()]);
     let words = words(random, width, inputs);
     let cycles = crate::evaluate::evaluate(width, &table, &words, 20_000)[3];
     let any = random.below(2000);
-    let budget = random.pick(&[0, 1, any, cycles, cycles.saturating_sub(1), 20_000]);
+    let most = if cycles == 0 { 20_000 } else { u32::MAX };
+    let budget = random.pick(&[0, 1, any, cycles, cycles.saturating_sub(1), 20_000, most]);
     Call::Evaluate { width, table, words, budget }
 }
 
@@ -109,7 +159,9 @@ fn compile(random: &mut Random) -> Call {
 fn circuit(random: &mut Random) -> (u32, Ported) {
     let width = random.width();
     if random.chance(50) {
-        let (cells, i) = (random.between(2, 60) as usize, random.between(1, 16));
+        let (few, many) = (random.between(2, 60), random.between(2, 4096));
+        let cells = if random.chance(2) { random.pick(&[many, 4096]) } else { few } as usize;
+        let i = random.between(1, 16);
         return (width, foreign(random, width, cells, i));
     }
     let table = accepted(random, width, 20, 400);
@@ -128,7 +180,8 @@ fn simulate(random: &mut Random) -> Call {
     if random.chance(40) {
         return Call::PowerUp { width, netlist, load, words, length };
     }
-    let mut before = wires(random, width.clamp(1, 32), &netlist);
+    let bad = if random.chance(15) { 5 } else { 0 };
+    let mut before = wires(random, width.clamp(1, 32), &netlist, bad);
     if random.chance(8) {
         before.resize(near(random, cells), 0);
     }
@@ -144,10 +197,9 @@ fn near(random: &mut Random, length: usize) -> usize {
     }
 }
 
-/// Makes wires that the cells could drive, whether they fit together or not; at times some can't
-/// be.
-fn wires(random: &mut Random, width: u32, netlist: &[u32]) -> Vec<u32> {
-    let bad = if random.chance(15) { 5 } else { 0 };
+/// Makes wires that the cells could drive, whether they fit together or not; so many of a hundred
+/// are too large for that.
+pub(super) fn wires(random: &mut Random, width: u32, netlist: &[u32], bad: u32) -> Vec<u32> {
     let mut wires = vec![];
     for cell in netlist.chunks_exact(4) {
         let width = if is_bit(cell[0]) { 1 } else { width };
@@ -162,7 +214,7 @@ fn writer(random: &mut Random) -> Call {
     let (mut width, mut circuit) = circuit(random);
     let need = {
         let Ported { netlist, i, o, done, outs } = &circuit;
-        write(width, netlist, *i, *o, *done, outs, &mut vec![0; 1 << 17])[2] as usize
+        write(width, netlist, *i, *o, *done, outs, &mut vec![0; 1 << 19])[2] as usize
     };
     if random.chance(15) {
         (width, circuit.netlist) = damage::netlist(random);

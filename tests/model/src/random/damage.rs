@@ -47,7 +47,7 @@ pub fn netlist(random: &mut Random) -> (u32, Vec<u32>) {
 }
 
 /// Makes the length wrong: none, no multiple of four, or over the limit by copies of the front.
-fn length(random: &mut Random, numbers: &mut Vec<u32>, over: usize) {
+pub(super) fn length(random: &mut Random, numbers: &mut Vec<u32>, over: usize) {
     match random.below(4) {
         0 => numbers.clear(),
         1 => numbers.truncate(numbers.len().saturating_sub(1)),
@@ -59,7 +59,7 @@ fn length(random: &mut Random, numbers: &mut Vec<u32>, over: usize) {
 
 /// Adds a chain in which every term uses the one before twice: by Seq (1) it passes the cell
 /// limit, by Par (2) it passes 16 words.
-fn double(table: &mut Vec<u32>, kind: u32) {
+pub(super) fn double(table: &mut Vec<u32>, kind: u32) {
     let first = (table.len() / 4) as u32;
     table.extend([20, 0, 0, 0]);
     for last in first..first + 11 {
@@ -93,7 +93,7 @@ fn number(random: &mut Random, width: u32, numbers: &mut [u32]) {
     let small = random.between(0, 24);
     let choices = [small, small, small, limit, limit.wrapping_add(1), u32::MAX, 16, 17];
     let kinds = [0, 5, 6, 7, 8, 10, 11, 23, 9, 12, 4, 3, 2, 1];
-    numbers[place as usize] = if random.chance(40) && place.is_multiple_of(4) {
+    numbers[place as usize] = if random.chance(40) && place % 4 == 0 {
         random.pick(&kinds)
     } else {
         random.pick(&choices)

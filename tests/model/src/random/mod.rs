@@ -1,13 +1,19 @@
 //! Makes random inputs of every sort from a seed: the same seed gives the same inputs everywhere.
 //!
 //! - `tables`: term tables that are accepted;
+//! - `limits`: term tables with as many terms or cells as there may be;
 //! - `netlists`: netlists that pass the cell checks and that no compiler made;
 //! - `damage`: tables and netlists with one fault or two;
 //! - `calls`: whole calls of each part, with faults in any argument;
-//! - `streams`: what the outside does to a circuit, cycle by cycle.
+//! - `faults`: whole calls with two chosen faults;
+//! - `streams`: what the outside does to a circuit, cycle by cycle;
+//! - `inputs`: bytes for the program.
 
 pub mod calls;
 pub mod damage;
+pub mod faults;
+pub mod inputs;
+pub mod limits;
 pub mod netlists;
 pub mod streams;
 pub mod tables;

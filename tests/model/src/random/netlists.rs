@@ -7,6 +7,7 @@ use crate::toolchain::{Model, Toolchain};
 use crate::MOST_WORDS;
 
 /// A netlist with the ports that the writer needs.
+#[derive(Debug)]
 pub struct Ported {
     /// Four numbers a cell.
     pub netlist: Vec<u32>,

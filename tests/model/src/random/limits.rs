@@ -1,0 +1,64 @@
+//! Makes tables at the limits of document 01: as many terms as there may be, and as many cells as
+//! there may be or one more.
+
+use super::Random;
+
+/// Puts terms that nobody names in front of a table, up to 256 in all.
+pub fn filled(table: &[u32]) -> Vec<u32> {
+    let front = 256 - table.len() / 4;
+    let mut filled = [20, 0, 0, 0].repeat(front);
+    for term in table.chunks(4) {
+        let operands = match term[0] {
+            1 | 2 => 2,
+            3 | 4 => 3,
+            _ => 0,
+        };
+        let moved = |(n, &number): (usize, &u32)| {
+            number + if (1..=operands).contains(&n) { front as u32 } else { 0 }
+        };
+        filled.extend(term.iter().enumerate().map(moved));
+    }
+    filled
+}
+
+/// Makes a table whose circuit has exactly 4,096 cells, or 4,097 where one more is asked for.
+///
+/// Chains of Seq over one word have 8m-4 cells for m leaves. A Par of two chains with 512 leaves in
+/// all has 4,089 cells, and 7 stand in front. A Par of a Par and an Ite over five chains with as
+/// many leaves has one more.
+pub fn cells(random: &mut Random, one_more: bool) -> Vec<u32> {
+    let mut table = [20, 0, 0, 0].to_vec();
+    (0..9).for_each(|last| table.extend([1, last, last, 0]));
+    let leaves = parts(random, 512, if one_more { 5 } else { 2 });
+    let chains: Vec<u32> = leaves.iter().map(|&count| chain(&mut table, count)).collect();
+    let pair = add(&mut table, [2, chains[0], chains[1], 0]);
+    if let [_, _, e, f, g] = chains[..] {
+        let choice = add(&mut table, [3, e, f, g]);
+        add(&mut table, [2, pair, choice, 0]);
+    }
+    table
+}
+
+/// Adds a term and gives its number.
+fn add(table: &mut Vec<u32>, term: [u32; 4]) -> u32 {
+    table.extend(term);
+    (table.len() / 4 - 1) as u32
+}
+
+/// Adds a chain of so many leaves, from chains of 1, 2, 4 and so on, which are terms 0 to 9.
+fn chain(table: &mut Vec<u32>, leaves: u32) -> u32 {
+    let powers: Vec<u32> = (0..10).filter(|power| leaves >> power & 1 == 1).collect();
+    powers[1..].iter().fold(powers[0], |last, &power| add(table, [1, last, power, 0]))
+}
+
+/// Splits a number into so many numbers above 0.
+fn parts(random: &mut Random, whole: u32, count: u32) -> Vec<u32> {
+    let mut left = whole;
+    let mut parts = vec![];
+    for more in (1..count).rev() {
+        parts.push(random.between(1, left - more));
+        left -= parts[parts.len() - 1];
+    }
+    parts.push(left);
+    parts
+}
