@@ -1,5 +1,5 @@
-// The words that a run is given: whether they fit the main term, and how they go into an array of 16.
-// Document 01: refusal 11.
+// The words that a run is given: whether they fit the main term, and how they go into an array of
+// 16. Document 01: refusal 11.
 ghost use mathlib.Core.Path.{_≡_};
 ghost use Prim.Native.Nat.{_≤_};
 ghost use lib.ListN.{length};

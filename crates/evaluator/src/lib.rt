@@ -1,6 +1,6 @@
 // The evaluator of term tables: what the main term gives on words, and in how many cycles, within a
-// budget. Refuses 1 to 9 as the table's checks do, then 11. A refused or unfinished call gives no words.
-// Document 01: "Term tables", "Cycles", "Refusal numbers".
+// budget. Refuses 1 to 9 as the table's checks do, then 11. A refused or unfinished call gives no
+// words. Document 01: "Term tables", "Cycles", "Refusal numbers".
 //
 //     evaluate  the checks, the words, then the run of the main term
 //     inputs    check 11, and the words in an array of 16
@@ -68,7 +68,8 @@ fn accepted(
     ran(width, table, given, input, budget)
 }
 
-// What the main term of a table gives on the words, and its cycles, where they are within the budget.
+// What the main term of a table gives on the words, and its cycles, where they are within the
+// budget.
 pub fn evaluate(width: u32, table: &[u32], words: &[u32], budget: u32) -> Evaluated
     ensures { λ r. ⌜ r ≡ evaluatedOf width (now (table .entry)) (now (words .entry)) budget ⌝ }
 {

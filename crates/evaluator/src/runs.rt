@@ -1,7 +1,7 @@
-// The run of a term of an accepted table, on an array that holds the words: the term's inputs before
-// it, its outputs after it. `term` goes by the kind, and each combinator calls it back on its operands,
-// whose numbers are lower. Cycles are counted from the start of the whole run up to the budget, the
-// limit, so no sum of them can wrap. Document 01: "Cycles".
+// The run of a term of an accepted table, on an array that holds the words: the term's inputs
+// before it, its outputs after it. `term` goes by the kind, and each combinator calls it back on
+// its operands, whose numbers are lower. Cycles are counted from the start of the whole run up to
+// the budget, the limit, so no sum of them can wrap. Document 01: "Cycles".
 use crate::leaves;
 use meaning::End;
 ghost use mathlib.Core.Path.{_≡_};
@@ -109,8 +109,8 @@ fn ite(
     term(width, table, given, g, words, at, limit)
 }
 
-// Rec: round by round, e on a copy of the words; where its word is not zero f ends the run, else g goes
-// on, and one cycle feeds its words back.
+// Rec: round by round, e on a copy of the words; where its word is not zero f ends the run, else g
+// goes on, and one cycle feeds its words back.
 fn rounds(
     width: u32,
     table: &[u32],

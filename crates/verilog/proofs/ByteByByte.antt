@@ -52,7 +52,8 @@ unfolding readFrom
 too-many [] p h = over (closed p) (omega (arith, closed-longer p))
 too-many (c ∷ l) p h =
     by-test (λ (r : Result). limited r ≡ notNumbers) (isDigit c) _ _
-    (λ d. by-test (λ (r : Result). limited r ≡ notNumbers) (ltb (grown (p .value) c) (2 ^ 32)) _ _ (λ u. too-many l (afterDigit c p) h) (λ u. refl))
+    (λ d. by-test (λ (r : Result). limited r ≡ notNumbers) (ltb (grown (p .value) c) (2 ^ 32)) _ _ (λ u. too-many l (afterDigit c p) h)
+    (λ u. refl))
     (λ d. by-test (λ (r : Result). limited r ≡ notNumbers) (isGap c) _ _
     (λ g. too-many l (afterGap p) (omega (arith, closed-longer p))) (λ g. refl))
 
@@ -76,7 +77,8 @@ holds-none = record { counted = refl; held = λ h. refl }
 pub store-none : (v : ℕ) {ns array : List ℕ} {k : ℕ} → Holds ns k array → Holds (closed (progress ns false v)) k array
 store-none v p = p
 
-pub store-one : (v : ℕ) {ns array : List ℕ} {k : ℕ} → k < 1025 → Holds ns k array → Holds (closed (progress ns true v)) (k + 1) (set array k v)
+pub store-one : (v : ℕ) {ns array : List ℕ} {k : ℕ} → k < 1025 → Holds ns k array → Holds (closed (progress ns true v)) (k + 1) (set
+    array k v)
 store-one v {ns} {array} {k} h p = record {
   counted = ap (λ (n : ℕ). n + 1) (p .counted) ∙ sym (length-append ns (v ∷ []));
   held = λ u. rw (p .held (omega arith), p .counted) (padded-more ns v (omega (arith, p .counted)));

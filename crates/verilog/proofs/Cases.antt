@@ -67,7 +67,8 @@ abbrev everyKind : List ℕ
 everyKind =
     0 ∷ 0 ∷ 0 ∷ 0 ∷ 8 ∷ 0 ∷ 0 ∷ 0 ∷ 8 ∷ 1 ∷ 0 ∷ 0 ∷ 1 ∷ 0 ∷ 0 ∷ 0 ∷ 2 ∷ 0 ∷ 3 ∷ 0 ∷ 3 ∷ 4 ∷ 3 ∷ 0 ∷ 4 ∷ 7 ∷ 0 ∷ 0 ∷ 5 ∷ 6 ∷ 0 ∷ 0 ∷
     6 ∷ 1 ∷ 0 ∷ 0 ∷ 9 ∷ 1 ∷ 0 ∷ 0 ∷ 10 ∷ 11 ∷ 0 ∷ 0 ∷ 11 ∷ 8 ∷ 9 ∷ 10 ∷ 12 ∷ 11 ∷ 0 ∷ 0 ∷ 13 ∷ 1 ∷ 2 ∷ 0 ∷ 14 ∷ 2 ∷ 1 ∷ 0 ∷
-    15 ∷ 1 ∷ 2 ∷ 0 ∷ 16 ∷ 1 ∷ 2 ∷ 0 ∷ 17 ∷ 1 ∷ 2 ∷ 0 ∷ 18 ∷ 1 ∷ 2 ∷ 0 ∷ 19 ∷ 1 ∷ 2 ∷ 0 ∷ 20 ∷ 1 ∷ 0 ∷ 0 ∷ 21 ∷ 1 ∷ 0 ∷ 0 ∷ 22 ∷ 1 ∷ 0 ∷ 0 ∷ []
+    15 ∷ 1 ∷ 2 ∷ 0 ∷ 16 ∷ 1 ∷ 2 ∷ 0 ∷ 17 ∷ 1 ∷ 2 ∷ 0 ∷ 18 ∷ 1 ∷ 2 ∷ 0 ∷ 19 ∷ 1 ∷ 2 ∷ 0 ∷ 20 ∷ 1 ∷ 0 ∷ 0 ∷ 21 ∷ 1 ∷ 0 ∷ 0 ∷ 22 ∷ 1 ∷ 0 ∷
+    0 ∷ []
 
 abbrev everyLine : List ℕ
 everyLine =
@@ -144,7 +145,8 @@ calls-answer : map (answers everyKind)
     (0 ∷ 0 ∷ 890 ∷ []) ∷ (20 ∷ 0 ∷ 0 ∷ []) ∷ (1 ∷ 0 ∷ 0 ∷ []) ∷
     (19 ∷ 0 ∷ 0 ∷ []) ∷ (19 ∷ 0 ∷ 0 ∷ []) ∷ (19 ∷ 0 ∷ 0 ∷ []) ∷ (19 ∷ 0 ∷ 0 ∷ []) ∷ (19 ∷ 0 ∷ 0 ∷ []) ∷
     (19 ∷ 0 ∷ 0 ∷ []) ∷ (19 ∷ 0 ∷ 0 ∷ []) ∷ (19 ∷ 0 ∷ 0 ∷ []) ∷ (19 ∷ 0 ∷ 0 ∷ []) ∷ (19 ∷ 0 ∷ 0 ∷ []) ∷ []
-unfolding digitsWithin digits rows spelled declaration operationLine clockLine textOf portsOf firstRefusal cellRefusal netlistVerdict inputsGiven
+unfolding digitsWithin digits rows spelled declaration operationLine clockLine textOf portsOf firstRefusal cellRefusal netlistVerdict
+    inputsGiven
     outputsFit portsFit writeVerdict writtenOf
 calls-answer = refl
 

@@ -28,7 +28,8 @@ digits-one n l = rw (lt-ltb n 10 l) refl
 
 pub digits-more : (n : ℕ) → 10 ≤ n → digits n ≡ digits (n / 10) ++ (digit (n % 10) ∷ [])
 unfolding digits digitsWithin
-digits-more n l = rw (le-ltb n 10 l) (ap (λ (t : List ℕ). t ++ (digit (n % 10) ∷ [])) (enough n (suc (n / 10)) (n / 10) (omega arith) (omega arith)))
+digits-more n l = rw (le-ltb n 10 l) (ap (λ (t : List ℕ). t ++ (digit (n % 10) ∷ [])) (enough n (suc (n / 10)) (n / 10) (omega arith)
+    (omega arith)))
 
 pub digits-few : (k n : ℕ) → n < 10 ^ suc k → length (digits n) ≤ suc k
 digits-few zero n h = rw (digits-one n h) (omega arith)

@@ -21,7 +21,8 @@ pub then : {l v u a b : List ℕ} {i j k : ℕ} → Wrote l i a j v → Wrote v 
 unfolding placed
 then {l} {v} {u} {a} {b} {i} {j} {k} p q = record {
   next-is = omega (arith, p .next-is, q .next-is, length-append a b);
-  holds = q .holds ∙ ap (λ (x : List ℕ). sets x j b) (p .holds) ∙ ap (λ (n : ℕ). sets (sets l i a) n b) (p .next-is) ∙ sym (sets-append a b l i);
+  holds = q .holds ∙ ap (λ (x : List ℕ). sets x j b) (p .holds) ∙ ap (λ (n : ℕ). sets (sets l i a) n b) (p .next-is) ∙ sym (sets-append
+      a b l i);
 }
 
 -- A byte, where the buffer holds it and where not.
@@ -38,7 +39,8 @@ pub no-rows : (f : ℕ → List ℕ) (l : List ℕ) (i : ℕ) → Wrote l i (row
 unfolding rows placed
 no-rows f l i = record { next-is = sym (add-zero i); holds = refl }
 
-pub row-more : (f : ℕ → List ℕ) {l v u : List ℕ} {i j k m : ℕ} → Wrote l i (rows f m) j v → Wrote v j (f m) k u → Wrote l i (rows f (m + 1)) k u
+pub row-more : (f : ℕ → List ℕ) {l v u : List ℕ} {i j k m : ℕ} → Wrote l i (rows f m) j v → Wrote v j (f m) k u → Wrote l i (rows f (m
+    + 1)) k u
 unfolding rows
 row-more f {m = m} p q = rw (add-one m) (then p q)
 

@@ -34,7 +34,8 @@ module _ {bytes array : List ℕ} {count value j : ℕ} {inside : Bool} (u : Und
     next : drop j bytes ≡ getD bytes j 0 ∷ drop (j + 1) bytes
     next = rw (add-one j) (drop-cons bytes j 0 h)
 
-    goes : limited (readFrom (getD bytes j 0 ∷ drop (j + 1) bytes) (progress (take count array) inside value)) ≡ limited (readFrom bytes begun)
+    goes : limited (readFrom (getD bytes j 0 ∷ drop (j + 1) bytes) (progress (take count array) inside value)) ≡ limited (readFrom
+        bytes begun)
     goes = rw next at (u .same)
 
     pub digit-on : isDigit (getD bytes j 0) ≡ true → grown value (getD bytes j 0) < 2 ^ 32 →
@@ -57,7 +58,8 @@ module _ {bytes array : List ℕ} {count value j : ℕ} {inside : Bool} (u : Und
         stored : Holds (closed (progress (take count array) inside value)) more after
         stored = s (take count array) (u .holds)
 
-        went : limited (readFrom (drop (j + 1) bytes) (progress (closed (progress (take count array) inside value)) false 0)) ≡ limited (readFrom bytes begun)
+        went : limited (readFrom (drop (j + 1) bytes) (progress (closed (progress (take count array) inside value)) false 0)) ≡ limited
+            (readFrom bytes begun)
         went = ap limited (sym (read-gap _ _ _ d g)) ∙ goes
 
         pub gap-over : 1025 < more → limited (readFrom bytes begun) ≡ notNumbers
@@ -87,7 +89,8 @@ module _ {bytes array : List ℕ} {count value j : ℕ} {inside : Bool} (u : Und
     pub end-none : more ≡ 0 → limited (readFrom bytes begun) ≡ notNumbers
     end-none l = sym ended ∙ rw (lt-leb 1 (length (closed (progress (take count array) inside value))) (omega (arith, all .counted))) refl
 
-    pub end-list : 1 ≤ more → more ≤ 1025 → record { reading = reading.Numbers more; numbers = after } ≡ listedAs (limited (readFrom bytes begun))
+    pub end-list : 1 ≤ more → more ≤ 1025 → record { reading = reading.Numbers more; numbers = after } ≡ listedAs (limited (readFrom
+        bytes begun))
     end-list l m =
         let ns = closed (progress (take count array) inside value) in
         let a = le-leb 1 (length ns) (omega (arith, all .counted)) in
@@ -99,7 +102,8 @@ pub in-limit : (bytes : List ℕ) → length bytes ≤ 16384 → listedAs (limit
 unfolding listedIn numbersIn
 in-limit bytes h = rw (le-leb (length bytes) 16384 h) refl
 
-pub no-numbers : (bytes : List ℕ) → length bytes ≤ 16384 → limited (readFrom bytes begun) ≡ notNumbers → listedAs notNumbers ≡ listedIn bytes
+pub no-numbers : (bytes : List ℕ) → length bytes ≤ 16384 → limited (readFrom bytes begun) ≡ notNumbers → listedAs notNumbers ≡ listedIn
+    bytes
 no-numbers bytes h e = ap listedAs (sym e) ∙ in-limit bytes h
 
 pub past-limit : (bytes : List ℕ) → 16384 < length bytes → listedAs notNumbers ≡ listedIn bytes

@@ -51,7 +51,8 @@ fn refused(verdict: Verdict) -> Written
     }
 }
 
-// Writes the text of a netlist with these ports. Its length is counted before the first byte is written.
+// Writes the text of a netlist with these ports. Its length is counted before the first byte is
+// written.
 pub fn write(
     width: u32,
     netlist: &[u32],

@@ -1,5 +1,5 @@
-// Lists of decimal numbers read from text. What is no such list is refused, and then there are no numbers.
-// Document 01: "The Verilog text", first paragraph.
+// Lists of decimal numbers read from text. What is no such list is refused, and then there are no
+// numbers. Document 01: "The Verilog text", first paragraph.
 use crate::Listed;
 use crate::Reading;
 ghost use mathlib.Core.Path.{_≡_};
@@ -54,7 +54,8 @@ fn grown(value: u32, byte: u8) -> u64
     value as u64 * 10 + (byte - b'0') as u64
 }
 
-// Stores the number that ends here, if one does, and answers how many there are. One too many is only counted.
+// Stores the number that ends here, if one does, and answers how many there are. One too many is
+// only counted.
 fn store(numbers: &mut [u32; 1025], count: usize, inside: bool, value: u32) -> usize
     requires { ⌜ count ≤ 1025 ⌝ }
     ensures { λ r. ⌜ ((ns : List ℕ) → Holds ns count (now (numbers .entry)) → Holds (closed (progress ns inside value)) r (now (numbers .exit))) ⌝ }

@@ -1,6 +1,6 @@
 // Pieces of text: a byte, a number, a template with its blanks filled in. Each is written from an
-// index on as far as the buffer goes, and answers the index after it. So the same code counts a text
-// where the buffer is short, and writes it where the buffer holds it.
+// index on as far as the buffer goes, and answers the index after it. So the same code counts a
+// text where the buffer is short, and writes it where the buffer holds it.
 use crate::Blanks;
 ghost use mathlib.Core.Path.{_≡_};
 ghost use mathlib.Core.List.{[], _∷_};

@@ -51,7 +51,8 @@ returns c =
     let s = c .before .before in
     let b = s .before .before in
     let a = b .before .before .before .args in
-    instead (a .netlist .now) (a .at) (operation-const (a .kind) (a .value) (a .t5) (b .before .if1 .taken) (b .if2 .taken)) (s .put .ensures)
+    instead (a .netlist .now) (a .at) (operation-const (a .kind) (a .value) (a .t5) (b .before .if1 .taken) (b .if2 .taken)) (s .put
+    .ensures)
 
 same-length-2 : tie.Need-same-length-2
 same-length-2 c = search needs

@@ -1,5 +1,6 @@
 -- Proof: `lines::cell_lines` meets its contract.
--- Invariant: the cells passed have their lines, of at most 640 bytes. Measure: the cells left. Mathematics in `proofs.Placing`. Assumes nothing.
+-- Invariant: the cells passed have their lines, of at most 640 bytes. Measure: the cells left. Mathematics in `proofs.Placing`.
+-- Assumes nothing.
 use Prim.Native.Nat.{_+_, _*_, _-_, _≤_}
 use mathlib.Core.Path.{_≡_}
 use native.Mathlib.Omega.{arith}

@@ -85,84 +85,132 @@ same-length c = search needs
 
 returns : tie.Need-returns
 unfolding declaration
-returns c = (rw (c .before .before .before .before .before .match .keys1) (c .before .before .fill .ensures .0), c .before .before .fill .ensures .1)
+returns c = (
+  rw (c .before .before .before .before .before .match .keys1) (c .before .before .fill .ensures .0),
+  c .before .before
+      .fill .ensures .1,
+)
 
 same-length-2 : tie.Need-same-length-2
 same-length-2 c = search needs
 
 returns-2 : tie.Need-returns-2
 unfolding declaration
-returns-2 c = (rw (c .before .before .before .before .before .match .keys2) (c .before .before .fill2 .ensures .0), c .before .before .fill2 .ensures .1)
+returns-2 c = (
+  rw (c .before .before .before .before .before .match .keys2) (c .before .before .fill2 .ensures .0),
+  c .before .before
+      .fill2 .ensures .1,
+)
 
 same-length-3 : tie.Need-same-length-3
 same-length-3 c = search needs
 
 returns-3 : tie.Need-returns-3
 unfolding declaration
-returns-3 c = (rw (c .before .before .before .before .before .match .keys3) (c .before .before .fill3 .ensures .0), c .before .before .fill3 .ensures .1)
+returns-3 c = (
+  rw (c .before .before .before .before .before .match .keys3) (c .before .before .fill3 .ensures .0),
+  c .before .before
+      .fill3 .ensures .1,
+)
 
 same-length-4 : tie.Need-same-length-4
 same-length-4 c = search needs
 
 returns-4 : tie.Need-returns-4
 unfolding declaration
-returns-4 c = (rw (c .before .before .before .before .before .match .keys4) (c .before .before .fill4 .ensures .0), c .before .before .fill4 .ensures .1)
+returns-4 c = (
+  rw (c .before .before .before .before .before .match .keys4) (c .before .before .fill4 .ensures .0),
+  c .before .before
+      .fill4 .ensures .1,
+)
 
 same-length-5 : tie.Need-same-length-5
 same-length-5 c = search needs
 
 returns-5 : tie.Need-returns-5
 unfolding declaration
-returns-5 c = (rw (c .before .before .before .before .before .match .keys5) (c .before .before .fill5 .ensures .0), c .before .before .fill5 .ensures .1)
+returns-5 c = (
+  rw (c .before .before .before .before .before .match .keys5) (c .before .before .fill5 .ensures .0),
+  c .before .before
+      .fill5 .ensures .1,
+)
 
 same-length-6 : tie.Need-same-length-6
 same-length-6 c = search needs
 
 returns-6 : tie.Need-returns-6
 unfolding declaration
-returns-6 c = (rw (c .before .before .before .before .before .match .keys6) (c .before .before .fill6 .ensures .0), c .before .before .fill6 .ensures .1)
+returns-6 c = (
+  rw (c .before .before .before .before .before .match .keys6) (c .before .before .fill6 .ensures .0),
+  c .before .before
+      .fill6 .ensures .1,
+)
 
 same-length-7 : tie.Need-same-length-7
 same-length-7 c = search needs
 
 returns-7 : tie.Need-returns-7
 unfolding declaration
-returns-7 c = (rw (c .before .before .before .before .before .match .keys7) (c .before .before .fill7 .ensures .0), c .before .before .fill7 .ensures .1)
+returns-7 c = (
+  rw (c .before .before .before .before .before .match .keys7) (c .before .before .fill7 .ensures .0),
+  c .before .before
+      .fill7 .ensures .1,
+)
 
 same-length-8 : tie.Need-same-length-8
 same-length-8 c = search needs
 
 returns-8 : tie.Need-returns-8
 unfolding declaration
-returns-8 c = (rw (c .before .before .before .before .before .match .keys8) (c .before .before .fill8 .ensures .0), c .before .before .fill8 .ensures .1)
+returns-8 c = (
+  rw (c .before .before .before .before .before .match .keys8) (c .before .before .fill8 .ensures .0),
+  c .before .before
+      .fill8 .ensures .1,
+)
 
 same-length-9 : tie.Need-same-length-9
 same-length-9 c = search needs
 
 returns-9 : tie.Need-returns-9
 unfolding declaration
-returns-9 c = (rw (c .before .before .before .before .before .match .keys9) (c .before .before .fill9 .ensures .0), c .before .before .fill9 .ensures .1)
+returns-9 c = (
+  rw (c .before .before .before .before .before .match .keys9) (c .before .before .fill9 .ensures .0),
+  c .before .before
+      .fill9 .ensures .1,
+)
 
 same-length-10 : tie.Need-same-length-10
 same-length-10 c = search needs
 
 returns-10 : tie.Need-returns-10
 unfolding declaration
-returns-10 c = (rw (c .before .before .before .before .before .match .keys10) (c .before .before .fill10 .ensures .0), c .before .before .fill10 .ensures .1)
+returns-10 c = (
+  rw (c .before .before .before .before .before .match .keys10) (c .before .before .fill10 .ensures .0),
+  c .before
+      .before .fill10 .ensures .1,
+)
 
 same-length-11 : tie.Need-same-length-11
 same-length-11 c = search needs
 
 returns-11 : tie.Need-returns-11
 unfolding declaration
-returns-11 c = (rw (c .before .before .before .before .before .match .keys11) (c .before .before .fill11 .ensures .0), c .before .before .fill11 .ensures .1)
+returns-11 c = (
+  rw (c .before .before .before .before .before .match .keys11) (c .before .before .fill11 .ensures .0),
+  c .before
+      .before .fill11 .ensures .1,
+)
 
 same-length-12 : tie.Need-same-length-12
 same-length-12 c = search needs
 
 returns-12 : tie.Need-returns-12
 unfolding declaration
-returns-12 c = (rw (c .before .before .before .before .before .match .keys12) (c .before .before .fill12 .ensures .0), c .before .before .fill12 .ensures .1)
+returns-12 c = (
+  rw (c .before .before .before .before .before .match .keys12) (c .before .before .fill12 .ensures .0),
+  c .before
+      .before .fill12 .ensures .1,
+)
 
 same-length-13 : tie.Need-same-length-13
 same-length-13 c = search needs
@@ -171,7 +219,9 @@ returns-13 : tie.Need-returns-13
 returns-13 c =
     let a = c .before .before .before .before .before .before .args in
     let n = c .before .before .before .before .match .rest in
-    let e = past-twelve (a .kind) (n .0 .0 .0 .0 .0 .0 .0 .0 .0 .0 .0 .1) (n .0 .0 .0 .0 .0 .0 .0 .0 .0 .0 .1) (n .0 .0 .0 .0 .0 .0 .0 .0 .0 .1) (n .0 .0 .0 .0 .0 .0 .0 .0 .1) (n .0 .0 .0 .0 .0 .0 .0 .1) (n .0 .0 .0 .0 .0 .0 .1) (n .0 .0 .0 .0 .0 .1) (n .0 .0 .0 .0 .1) (n .0 .0 .0 .1) (n .0 .0 .1) (n .0 .1) (n .1) in
+    let e = past-twelve (a .kind) (n .0 .0 .0 .0 .0 .0 .0 .0 .0 .0 .0 .1) (n .0 .0 .0 .0 .0 .0 .0 .0 .0 .0 .1) (n .0 .0 .0 .0 .0 .0 .0
+    .0 .0 .1) (n .0 .0 .0 .0 .0 .0 .0 .0 .1) (n .0 .0 .0 .0 .0 .0 .0 .1) (n .0 .0 .0 .0 .0 .0 .1) (n .0 .0 .0 .0 .0 .1) (n .0
+    .0 .0 .0 .1) (n .0 .0 .0 .1) (n .0 .0 .1) (n .0 .1) (n .1) in
     (rw e (c .before .before .operate .ensures .0), c .before .before .operate .ensures .1)
 
 pub declare-spec : {M : Type 1} → statement M

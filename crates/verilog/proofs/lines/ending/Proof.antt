@@ -37,8 +37,12 @@ returns : tie.Need-returns
 returns c =
     let f1 = c .before .before .before .before .before .before .before .before .before .before .before .before .before .fill .ensures in
     let r1 = c .before .before .before .before .before .before .before .before .row .ensures in
-    let f2 = c .before .before .fill2 .ensures in
-    (then (then (rw (c .before .before .before .before .before .before .before .before .before .before .before .before .before .before .port-blanks .ensures) at (f1 .0)) (r1 .0)) (rw (c .before .before .before .port-blanks2 .ensures) at (f2 .0)), omega (arith, f1 .1, r1 .1, f2 .1))
+    let f2 = c .before .before .fill2 .ensures in (
+      then (then (rw (c .before .before .before .before .before .before .before .before .before .before .before .before .before .before
+          .port-blanks .ensures) at (f1 .0)) (r1 .0)) (rw (c .before .before .before .port-blanks2 .ensures) at (f2 .0)),
+      omega
+          (arith, f1 .1, r1 .1, f2 .1),
+    )
 
 pub ending-spec : {M : Type 1} → statement M
 ending-spec =

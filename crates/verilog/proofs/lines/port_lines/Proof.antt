@@ -38,8 +38,10 @@ same-length c = search needs
 
 returns : tie.Need-returns
 returns c =
-    let p = c .before .before .before .before .before .before .before .before .before .before .before .before .before .before .before .before .before .before .before .before .port-blanks .ensures in
-    let f1 = c .before .before .before .before .before .before .before .before .before .before .before .before .before .before .before .before .before .fill .ensures in
+    let p = c .before .before .before .before .before .before .before .before .before .before .before .before .before .before .before
+    .before .before .before .before .before .port-blanks .ensures in
+    let f1 = c .before .before .before .before .before .before .before .before .before .before .before .before .before .before .before
+    .before .before .fill .ensures in
     let r1 = c .before .before .before .before .before .before .before .before .before .before .before .before .row .ensures in
     let f2 = c .before .before .before .before .before .before .before .fill2 .ensures in
     let r2 = c .before .before .row2 .ensures in

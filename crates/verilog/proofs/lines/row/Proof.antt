@@ -1,5 +1,6 @@
 -- Proof: `lines::row` meets its contract.
--- Invariant: the ports passed are written, at most 640 bytes for each. Measure: the ports left. Mathematics in `proofs.Placing`. Assumes nothing.
+-- Invariant: the ports passed are written, at most 640 bytes for each. Measure: the ports left. Mathematics in `proofs.Placing`.
+-- Assumes nothing.
 use Prim.Native.Nat.{_+_, _*_, _-_, _≤_}
 use mathlib.Core.Path.{_≡_}
 use native.Mathlib.Omega.{arith}
@@ -12,7 +13,8 @@ use Rattle.verilog.proofs.lines.row.Statement.{statement}
 use Rattle.verilog.proofs.lines.row.Tie as tie
 
 abbrev Inv-loop : tie.InvT-loop
-Inv-loop text₀ at template width count outs next₀ j₀ text next j = (j ≤ count) × (next ≤ at + j * 640) × Wrote text₀ at (eachOf width outs template j) next text
+Inv-loop text₀ at template width count outs next₀ j₀ text next j = (j ≤ count) × (next ≤ at + j * 640) × Wrote text₀ at (eachOf width
+    outs template j) next text
 
 abbrev μ-loop : tie.MeasureT-loop
 μ-loop text₀ at template width count outs next₀ j₀ text next j = count - j

@@ -27,8 +27,10 @@ same-length c = search needs
 returns : tie.Need-returns
 unfolding textOf
 returns c =
-    let p = c .before .before .before .before .before .before .before .before .before .before .before .before .before .before .before .before .before .before .names .ensures in
-    let q = c .before .before .before .before .before .before .before .before .before .before .before .before .before .before .port-lines .ensures in
+    let p = c .before .before .before .before .before .before .before .before .before .before .before .before .before .before .before
+    .before .before .before .names .ensures in
+    let q = c .before .before .before .before .before .before .before .before .before .before .before .before .before .before
+    .port-lines .ensures in
     let d = c .before .before .before .before .before .before .before .before .before .before .cell-lines .ensures in
     let k = c .before .before .before .before .before .before .cell-lines2 .ensures in
     let e = c .before .before .ending .ensures in

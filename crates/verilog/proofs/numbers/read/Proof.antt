@@ -1,5 +1,6 @@
 -- Proof: `numbers::read` meets its contract.
--- Invariant: what is left to read gives what the whole text gives. Measure: the bytes left. Mathematics in `proofs.Underway`. Assumes nothing.
+-- Invariant: what is left to read gives what the whole text gives. Measure: the bytes left. Mathematics in `proofs.Underway`. Assumes
+-- nothing.
 use Prim.Native.Nat.{_-_}
 use mathlib.Core.Path.{sym, _∙_}
 use native.Mathlib.Omega.{arith}
@@ -49,7 +50,12 @@ returns-2 c =
     let d = sym (c .before .before .before .before .is-digit .ensures) ∙ c .before .before .before .if2 .taken in
     let g = c .before .before .grown .ensures in
     c .no-list2 .ensures ∙ no-numbers _ (L .before .if1 .left)
-    (digit-large (L .loop .inv) (c .before .before .before .before .before .before .loop-test .taken) d (omega (arith, g, c .before .if3 .taken)))
+    (digit-large (L .loop .inv) (c .before .before .before .before .before .before .loop-test .taken) d (omega (
+      arith,
+      g,
+      c .before
+          .if3 .taken,
+    )))
 
 cast-value : tie.Need-cast-value Inv-loop μ-loop
 cast-value c = search needs
@@ -75,7 +81,8 @@ returns-3 c =
     let L = c .before .before .before .before .before .before .before in
     let d = sym (c .before .before .before .before .is-digit .ensures) ∙ c .before .before .before .if2 .left in
     let g = sym (c .before .before .is-gap .ensures) ∙ not-true _ (c .before .if4 .taken) in
-    c .no-list3 .ensures ∙ no-numbers _ (L .before .if1 .left) (other-byte (L .loop .inv) (c .before .before .before .before .before .before .loop-test .taken) d g)
+    c .no-list3 .ensures ∙ no-numbers _ (L .before .if1 .left) (other-byte (L .loop .inv) (c .before .before .before .before .before
+    .before .loop-test .taken) d g)
 
 store-requires : tie.Need-store-requires Inv-loop μ-loop
 store-requires c κs = search needs
@@ -86,10 +93,12 @@ no-list-requires-4 c κs = search needs
 returns-4 : tie.Need-returns-4 Inv-loop μ-loop
 returns-4 c =
     let L = c .before .before .before .before .before .before .before .before .before .before in
-    let d = sym (c .before .before .before .before .before .before .before .is-digit .ensures) ∙ c .before .before .before .before .before .before .if2 .left in
+    let d = sym (c .before .before .before .before .before .before .before .is-digit .ensures) ∙ c .before .before .before .before
+    .before .before .if2 .left in
     let g = sym (c .before .before .before .before .before .is-gap .ensures) ∙ not-false _ (c .before .before .before .before .if4 .left) in
     c .no-list4 .ensures ∙ no-numbers _ (L .before .if1 .left)
-    (gap-over (L .loop .inv) (c .before .before .before .before .before .before .before .before .before .loop-test .taken) d g _ _ (c .before .before .store .ensures .0) (c .before .if5 .taken))
+    (gap-over (L .loop .inv) (c .before .before .before .before .before .before .before .before .before .loop-test .taken) d g _ _ (c
+    .before .before .store .ensures .0) (c .before .if5 .taken))
 
 loop-less-2 : tie.Need-loop-less-2 Inv-loop μ-loop
 loop-less-2 c = search needs
@@ -97,9 +106,11 @@ loop-less-2 c = search needs
 loop-again-2 : tie.Need-loop-again-2 Inv-loop μ-loop
 loop-again-2 c =
     let L = c .before .before .before .before .before .before .before .before .before in
-    let d = sym (c .before .before .before .before .before .before .is-digit .ensures) ∙ c .before .before .before .before .before .if2 .left in
+    let d = sym (c .before .before .before .before .before .before .is-digit .ensures) ∙ c .before .before .before .before .before .if2
+    .left in
     let g = sym (c .before .before .before .before .is-gap .ensures) ∙ not-false _ (c .before .before .before .if4 .left) in
-    gap-on (L .loop .inv) (c .before .before .before .before .before .before .before .before .loop-test .taken) d g _ _ (c .before .store .ensures .0) (c .if5 .left)
+    gap-on (L .loop .inv) (c .before .before .before .before .before .before .before .before .loop-test .taken) d g _ _ (c .before
+    .store .ensures .0) (c .if5 .left)
 
 store-requires-2 : tie.Need-store-requires-2 Inv-loop μ-loop
 store-requires-2 c κs = search needs
@@ -111,7 +122,8 @@ returns-5 : tie.Need-returns-5 Inv-loop μ-loop
 returns-5 c =
     let L = c .before .before .before .before .before in
     c .no-list5 .ensures ∙ no-numbers _ (L .before .if1 .left)
-    (end-none (L .loop .inv) (c .before .before .before .before .loop-test .left) _ _ (c .before .before .store2 .ensures .0) (c .before .if6 .taken))
+    (end-none (L .loop .inv) (c .before .before .before .before .loop-test .left) _ _ (c .before .before .store2 .ensures .0) (c
+    .before .if6 .taken))
 
 no-list-requires-6 : tie.Need-no-list-requires-6 Inv-loop μ-loop
 no-list-requires-6 c κs = search needs
@@ -120,7 +132,8 @@ returns-6 : tie.Need-returns-6 Inv-loop μ-loop
 returns-6 c =
     let L = c .before .before .before .before .before .before in
     c .no-list6 .ensures ∙ no-numbers _ (L .before .if1 .left)
-    (end-over (L .loop .inv) (c .before .before .before .before .before .loop-test .left) _ _ (c .before .before .before .store2 .ensures .0) (c .before .if7 .taken))
+    (end-over (L .loop .inv) (c .before .before .before .before .before .loop-test .left) _ _ (c .before .before .before .store2
+    .ensures .0) (c .before .if7 .taken))
 
 cast-t21 : tie.Need-cast-t21 Inv-loop μ-loop
 cast-t21 c = search needs
@@ -129,7 +142,8 @@ returns-7 : tie.Need-returns-7 Inv-loop μ-loop
 returns-7 c =
     let L = c .before .before .before .before .before in
     let e = c .before .if6 .left in
-    end-list (L .loop .inv) (c .before .before .before .before .loop-test .left) _ _ (c .before .before .store2 .ensures .0) (omega (arith, e)) (c .if7 .left)
+    end-list (L .loop .inv) (c .before .before .before .before .loop-test .left) _ _ (c .before .before .store2 .ensures .0) (omega
+    (arith, e)) (c .if7 .left)
     ∙ in-limit _ (L .before .if1 .left)
 
 pub read-spec : {M : Type 1} → statement M

@@ -37,7 +37,8 @@ same-length t c = search needs
 returns : (t : ℕ) → number-lts.Need-returns (calls t) (at-it t) number.Post
 returns t c =
     let s = c .before .before .before .before .before .before .before in
-    let w = number-one _ (c .before .before .before .before .before .if1 .taken) (c .before .before .before .digit .ensures) (c .before .before .put .ensures) in
+    let w = number-one _ (c .before .before .before .before .before .if1 .taken) (c .before .before .before .digit .ensures) (c .before
+    .before .put .ensures) in
     (w, number-near (s .fits .value .fits) w)
 
 number-requires : (t : ℕ) → number-lts.Need-number-requires (calls t) (at-it t) number.Post
@@ -56,7 +57,8 @@ returns-2 : (t : ℕ) → number-lts.Need-returns-2 (calls t) (at-it t) number.P
 returns-2 t c =
     let s = c .before .before .before .before .before .before .before .before .before .before .before in
     let n = c .before .before .before .before .before .before .before in
-    let w = number-more _ (n .before .before .if1 .left) (c .before .before .before .digit2 .ensures) (n .number .ensures .0) (c .before .before .put2 .ensures) in
+    let w = number-more _ (n .before .before .if1 .left) (c .before .before .before .digit2 .ensures) (n .number .ensures .0) (c
+    .before .before .put2 .ensures) in
     (w, number-near (s .fits .value .fits) w)
 
 pub +number-spec : {M : Type 1} → statement M

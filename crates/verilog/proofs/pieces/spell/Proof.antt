@@ -33,42 +33,66 @@ same-length c = search needs
 
 returns : tie.Need-returns
 unfolding spelled
-returns c = (rw (c .before .before .before .before .match .keys1) (c .before .before .number .ensures .0), c .before .before .number .ensures .1)
+returns c = (
+  rw (c .before .before .before .before .match .keys1) (c .before .before .number .ensures .0),
+  c .before .before .number
+      .ensures .1,
+)
 
 same-length-2 : tie.Need-same-length-2
 same-length-2 c = search needs
 
 returns-2 : tie.Need-returns-2
 unfolding spelled
-returns-2 c = (rw (c .before .before .before .before .match .keys2) (c .before .before .number2 .ensures .0), c .before .before .number2 .ensures .1)
+returns-2 c = (
+  rw (c .before .before .before .before .match .keys2) (c .before .before .number2 .ensures .0),
+  c .before .before
+      .number2 .ensures .1,
+)
 
 same-length-3 : tie.Need-same-length-3
 same-length-3 c = search needs
 
 returns-3 : tie.Need-returns-3
 unfolding spelled
-returns-3 c = (rw (c .before .before .before .before .match .keys3) (c .before .before .number3 .ensures .0), c .before .before .number3 .ensures .1)
+returns-3 c = (
+  rw (c .before .before .before .before .match .keys3) (c .before .before .number3 .ensures .0),
+  c .before .before
+      .number3 .ensures .1,
+)
 
 same-length-4 : tie.Need-same-length-4
 same-length-4 c = search needs
 
 returns-4 : tie.Need-returns-4
 unfolding spelled
-returns-4 c = (rw (c .before .before .before .before .match .keys4) (c .before .before .number4 .ensures .0), c .before .before .number4 .ensures .1)
+returns-4 c = (
+  rw (c .before .before .before .before .match .keys4) (c .before .before .number4 .ensures .0),
+  c .before .before
+      .number4 .ensures .1,
+)
 
 same-length-5 : tie.Need-same-length-5
 same-length-5 c = search needs
 
 returns-5 : tie.Need-returns-5
 unfolding spelled
-returns-5 c = (rw (c .before .before .before .before .match .keys5) (c .before .before .number5 .ensures .0), c .before .before .number5 .ensures .1)
+returns-5 c = (
+  rw (c .before .before .before .before .match .keys5) (c .before .before .number5 .ensures .0),
+  c .before .before
+      .number5 .ensures .1,
+)
 
 same-length-6 : tie.Need-same-length-6
 same-length-6 c = search needs
 
 returns-6 : tie.Need-returns-6
 unfolding spelled
-returns-6 c = (rw (c .before .before .before .before .match .keys6) (c .before .before .number6 .ensures .0), c .before .before .number6 .ensures .1)
+returns-6 c = (
+  rw (c .before .before .before .before .match .keys6) (c .before .before .number6 .ensures .0),
+  c .before .before
+      .number6 .ensures .1,
+)
 
 same-length-7 : tie.Need-same-length-7
 same-length-7 c = search needs

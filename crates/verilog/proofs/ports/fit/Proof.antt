@@ -22,19 +22,57 @@ outputs-fit-requires c κs = search needs
 
 returns : tie.Need-returns
 unfolding portsFit
-returns c = c .outputs-fit .ensures ∙ rw (← c .before .before .before .before .before .before .before .before .few-words .ensures, c .before .before .before .before .before .before .before .if1 .taken, ← c .before .before .before .before .before .before .few-words2 .ensures, c .before .before .before .before .before .if2 .taken, ← c .before .before .before .before .inputs-fit .ensures, c .before .before .before .if3 .taken, ← c .before .before .is-bit .ensures, c .before .if4 .taken) refl
+returns c = c .outputs-fit .ensures ∙ rw (
+  ← c .before .before .before .before .before .before .before .before .few-words .ensures,
+  c
+      .before .before .before .before .before .before .before .if1 .taken,
+  ← c .before .before .before .before .before .before
+      .few-words2 .ensures,
+  c .before .before .before .before .before .if2 .taken,
+  ← c .before .before .before .before .inputs-fit
+      .ensures,
+  c .before .before .before .if3 .taken,
+  ← c .before .before .is-bit .ensures,
+  c .before .if4 .taken,
+) refl
 
 returns-2 : tie.Need-returns-2
 unfolding portsFit
-returns-2 c = rw (← c .before .before .before .before .before .before .before .few-words .ensures, c .before .before .before .before .before .before .if1 .taken, ← c .before .before .before .before .before .few-words2 .ensures, c .before .before .before .before .if2 .taken, ← c .before .before .before .inputs-fit .ensures, c .before .before .if3 .taken, ← c .before .is-bit .ensures, c .if4 .left) refl
+returns-2 c = rw (
+  ← c .before .before .before .before .before .before .before .few-words .ensures,
+  c .before .before .before .before
+      .before .before .if1 .taken,
+  ← c .before .before .before .before .before .few-words2 .ensures,
+  c .before .before .before
+      .before .if2 .taken,
+  ← c .before .before .before .inputs-fit .ensures,
+  c .before .before .if3 .taken,
+  ← c .before .is-bit
+      .ensures,
+  c .if4 .left,
+) refl
 
 returns-3 : tie.Need-returns-3
 unfolding portsFit
-returns-3 c = rw (← c .before .before .before .before .before .few-words .ensures, c .before .before .before .before .if1 .taken, ← c .before .before .before .few-words2 .ensures, c .before .before .if2 .taken, ← c .before .inputs-fit .ensures, c .if3 .left) refl
+returns-3 c = rw (
+  ← c .before .before .before .before .before .few-words .ensures,
+  c .before .before .before .before .if1 .taken,
+  ← c
+      .before .before .before .few-words2 .ensures,
+  c .before .before .if2 .taken,
+  ← c .before .inputs-fit .ensures,
+  c .if3 .left,
+) refl
 
 returns-4 : tie.Need-returns-4
 unfolding portsFit
-returns-4 c = rw (← c .before .before .before .few-words .ensures, c .before .before .if1 .taken, ← c .before .few-words2 .ensures, c .if2 .left) refl
+returns-4 c = rw (
+  ← c .before .before .before .few-words .ensures,
+  c .before .before .if1 .taken,
+  ← c .before .few-words2 .ensures,
+  c
+      .if2 .left,
+) refl
 
 returns-5 : tie.Need-returns-5
 unfolding portsFit

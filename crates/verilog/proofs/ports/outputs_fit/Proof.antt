@@ -41,8 +41,11 @@ loop-less c = search needs
 loop-again : tie.Need-loop-again Inv-loop μ-loop
 loop-again c =
     let L = c .before .before .before .before .loop in
-    let a = c .before .before .before .before .before .before .args in
-    (omega arith, c .output-fits .ensures ∙ outputs-more (a .netlist .now) (a .o) (a .outs .now) (L .n) (sym (L .inv .1) ∙ c .before .if1 .taken))
+    let a = c .before .before .before .before .before .before .args in (
+      omega arith,
+      c .output-fits .ensures ∙ outputs-more (a .netlist .now) (a .o) (a .outs .now) (L .n) (sym (L .inv .1) ∙ c .before
+          .if1 .taken),
+    )
 
 loop-less-2 : tie.Need-loop-less-2 Inv-loop μ-loop
 loop-less-2 c = search needs
