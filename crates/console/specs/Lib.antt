@@ -1,0 +1,2 @@
+-- What the program prints. Definitions only.
+pub mod Response
