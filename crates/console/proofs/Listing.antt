@@ -46,7 +46,8 @@ pub record Given (line array : List ℕ) (count : ℕ) : Type 0 where
   pub long : length array ≡ 1025
   pub line-is : line ≡ printed (getD array 0 0) (take (count - 1) (drop 1 array))
 
-given-by : (r : Result) (count : ℕ) → Fair r → listedAs r .reading ≡ reading.Numbers count → Given (printedFor r) (listedAs r .numbers) count
+given-by : (r : Result) (count : ℕ) → Fair r → listedAs r .reading ≡ reading.Numbers count → Given (printedFor r) (listedAs r .numbers)
+    count
 unfolding Fair
 given-by notNumbers count f e = let z : _≡_ {A = ℕ} 0 1 = cc in absurd (omega arith)
 given-by (numbers ns) count f e =
@@ -63,7 +64,8 @@ given-by (numbers ns) count f e =
       line-is = rw (w, d, take-at (drop 1 ns) z (count - 1) l) refl;
     }
 
-pub given : (input : List ℕ) (L : Listed) (count : ℕ) → L ≡ listedIn input → L .reading ≡ reading.Numbers count → Given (responseTo input) (L .numbers) count
+pub given : (input : List ℕ) (L : Listed) (count : ℕ) → L ≡ listedIn input → L .reading ≡ reading.Numbers count → Given (responseTo
+    input) (L .numbers) count
 unfolding responseTo listedIn
 given input L count e r = rw e (given-by (numbersIn input) count (fair input) (ap (λ (x : Listed). x .reading) (sym e) ∙ r))
 

@@ -21,12 +21,14 @@ pub both-accept : (v x : Verdict) → onVerdict v x verdict.Refused ≡ verdict.
 both-accept verdict.Accepted x e = (refl, e)
 both-accept (verdict.Refused n p) x e = let z : _≡_ {A = ℕ} 0 1 = cc in absurd (omega arith)
 
-pub test-accepts : (b : Bool) (v : Verdict) (n p : ℕ) → pick b v (verdict.Refused n p) ≡ verdict.Accepted → (b ≡ true) × (v ≡ verdict.Accepted)
+pub test-accepts : (b : Bool) (v : Verdict) (n p : ℕ) → pick b v (verdict.Refused n p) ≡ verdict.Accepted → (b ≡ true) × (v ≡
+    verdict.Accepted)
 test-accepts true v n p e = (refl, e)
 test-accepts false v n p e = let z : _≡_ {A = ℕ} 0 1 = cc in absurd (omega arith)
 
 -- The compiler's.
-pub emission-refused : (v : Verdict) (T : Term) {n p : ℕ} → onVerdict v (emitted T) notEmitted .emission ≡ emission.Refused n p → v ≡ verdict.Refused n p
+pub emission-refused : (v : Verdict) (T : Term) {n p : ℕ} → onVerdict v (emitted T) notEmitted .emission ≡ emission.Refused n p → v ≡
+    verdict.Refused n p
 emission-refused verdict.Accepted T e = let z : _≡_ {A = ℕ} 0 1 = cc in absurd (omega arith)
 emission-refused (verdict.Refused a b) T e = cc
 
@@ -37,15 +39,18 @@ pub record Emits (v : Verdict) (T : Term) (c i o d : ℕ) : Type 0 where
   pub gives : o ≡ outs T
   pub ends : d ≡ mainBlock T .done
 
-pub emission-emitted : (v : Verdict) (T : Term) {c i o d : ℕ} → onVerdict v (emitted T) notEmitted .emission ≡ emission.Emitted c i o d → Emits v T c i o d
+pub emission-emitted : (v : Verdict) (T : Term) {c i o d : ℕ} → onVerdict v (emitted T) notEmitted .emission ≡ emission.Emitted c i o d
+    → Emits v T c i o d
 emission-emitted verdict.Accepted T e = record { accepts = refl; cells = cc; takes = cc; gives = cc; ends = cc }
 emission-emitted (verdict.Refused a b) T e = let z : _≡_ {A = ℕ} 0 1 = cc in absurd (omega arith)
 
 -- The writer's.
-pub written-refused : (v : Verdict) (m : ℕ) {n p : ℕ} → onVerdict v (written.Length m) written.Refused ≡ written.Refused n p → v ≡ verdict.Refused n p
+pub written-refused : (v : Verdict) (m : ℕ) {n p : ℕ} → onVerdict v (written.Length m) written.Refused ≡ written.Refused n p → v ≡
+    verdict.Refused n p
 written-refused verdict.Accepted m e = let z : _≡_ {A = ℕ} 0 1 = cc in absurd (omega arith)
 written-refused (verdict.Refused a b) m e = cc
 
-pub written-length : (v : Verdict) (m : ℕ) {k : ℕ} → onVerdict v (written.Length m) written.Refused ≡ written.Length k → (v ≡ verdict.Accepted) × (k ≡ m)
+pub written-length : (v : Verdict) (m : ℕ) {k : ℕ} → onVerdict v (written.Length m) written.Refused ≡ written.Length k → (v ≡
+    verdict.Accepted) × (k ≡ m)
 written-length verdict.Accepted m e = (refl, cc)
 written-length (verdict.Refused a b) m e = let z : _≡_ {A = ℕ} 0 1 = cc in absurd (omega arith)

@@ -59,7 +59,8 @@ module _ (w : ℕ) (t : List ℕ) (C : Compiled) (made : C ≡ compiledOf w t 24
   pub compiler-refused : (n p : ℕ) → C .emission ≡ emission.Refused n p → printed w t ≡ refusedLine n p
   unfolding compiledOf printed
   compiler-refused n p e =
-      let v : compileVerdict w t 2400 ≡ verdict.Refused n p = emission-refused (compileVerdict w t 2400) (mainOf t) (ap (λ (c : Compiled). c .emission) (sym made) ∙ e) in
+      let v : compileVerdict w t 2400 ≡ verdict.Refused n p = emission-refused (compileVerdict w t 2400) (mainOf t) (ap (λ (c :
+      Compiled). c .emission) (sym made) ∙ e) in
       rw v refl
 
   module _ (c i o d : ℕ) (e : C .emission ≡ emission.Emitted c i o d) where
@@ -81,7 +82,8 @@ module _ (w : ℕ) (t : List ℕ) (C : Compiled) (made : C ≡ compiledOf w t 24
     pub cells-fit : c * 4 ≤ 2400
     cells-fit = rw (emits .cells) (judged .1)
 
-    pub cells-are : (cells after : List ℕ) → 2400 ≡ length cells → after ≡ netlistAfter w t cells → take (c * 4) after ≡ netlistOf (mainOf t)
+    pub cells-are : (cells after : List ℕ) → 2400 ≡ length cells → after ≡ netlistAfter w t cells → take (c * 4) after ≡ netlistOf
+        (mainOf t)
     unfolding netlistAfter
     cells-are cells after l h =
         rw (h, ← l, emits .accepts, emits .cells) (take-at (netlistOf (mainOf t)) _ _ (netlist-size w t (judged .0)))
@@ -89,12 +91,15 @@ module _ (w : ℕ) (t : List ℕ) (C : Compiled) (made : C ≡ compiledOf w t 24
     -- The writer, on these cells.
     module _ (net text after : List ℕ) (same : net ≡ netlistOf (mainOf t)) (long : 65536 ≡ length text) (r : Written)
         (answers : r ≡ writtenOf w net i o d (C .wires) (length text)) (leaves : after ≡ textAfter w net i o d (C .wires) text) where
-      answered : r ≡ writtenOf w (netlistOf (mainOf t)) (ins (mainOf t)) (outs (mainOf t)) (mainBlock (mainOf t) .done) (outWires (mainOf t)) 65536
+      answered : r ≡ writtenOf w (netlistOf (mainOf t)) (ins (mainOf t)) (outs (mainOf t)) (mainBlock (mainOf t) .done) (outWires
+          (mainOf t)) 65536
       answered =
           answers ∙ same-call (λ n a b f ws. writtenOf w n a b f ws (length text)) same (emits .takes) (emits .gives) (emits .ends) wired ∙
-          ap (writtenOf w (netlistOf (mainOf t)) (ins (mainOf t)) (outs (mainOf t)) (mainBlock (mainOf t) .done) (outWires (mainOf t))) (sym long)
+          ap (writtenOf w (netlistOf (mainOf t)) (ins (mainOf t)) (outs (mainOf t)) (mainBlock (mainOf t) .done) (outWires (mainOf t)))
+          (sym long)
 
-      left : after ≡ textAfter w (netlistOf (mainOf t)) (ins (mainOf t)) (outs (mainOf t)) (mainBlock (mainOf t) .done) (outWires (mainOf t)) text
+      left : after ≡ textAfter w (netlistOf (mainOf t)) (ins (mainOf t)) (outs (mainOf t)) (mainBlock (mainOf t) .done) (outWires
+          (mainOf t)) text
       left = leaves ∙ same-call (λ n a b f ws. textAfter w n a b f ws text) same (emits .takes) (emits .gives) (emits .ends) wired
 
       pub writer-refused : (n p : ℕ) → r ≡ written.Refused n p → (printed w t ≡ refusedLine n p) × (after ≡ text)

@@ -1,5 +1,5 @@
-// What the program prints: for a list of numbers, a width and a table, the Verilog text of the table's circuit; for anything else,
-// one line. Document 01: "The Verilog text".
+// What the program prints: for a list of numbers, a width and a table, the Verilog text of the
+// table's circuit; for anything else, one line. Document 01: "The Verilog text".
 use circuit::Emission;
 use verilog::Reading;
 use verilog::Written;

@@ -67,13 +67,15 @@ not-written-requires c κs = search needs
 
 returns-2 : tie.Need-returns-2
 returns-2 c =
-    let a = c .before .before .before .before .before .before .before .before .before .before .before .before .before .before .before .before .args in
+    let a = c .before .before .before .before .before .before .before .before .before .before .before .before .before .before .before
+    .before .args in
     let k = c .before .before .before .before .before .before .before .before .before .before .before .before .before .compile in
     let m = c .before .before .before .before .before .before .before .before .before .before .emission .given .1 in
     let r = c .before .before .before .before .write in
     let q = c .before .before .enum-told2 .given .1 in
     let s = cells-are (a .width) (a .table .now) (k .result) (k .ensures .0) _ _ _ _ m _ _ refl (k .ensures .1) in
-    let w = writer-refused (a .width) (a .table .now) (k .result) (k .ensures .0) _ _ _ _ m _ _ _ s (sym (c .before .before .before .before .before .write-arg .given .0 .1)) (r .result) (r .ensures .0) (r .ensures .1) _ _ q in
+    let w = writer-refused (a .width) (a .table .now) (k .result) (k .ensures .0) _ _ _ _ m _ _ _ s (sym (c .before .before .before
+    .before .before .write-arg .given .0 .1)) (r .result) (r .ensures .0) (r .ensures .1) _ _ q in
     (rw (w .0) (rw (q, w .1) at (c .not-written .ensures .0)), c .not-written .ensures .1)
 
 cast-result : tie.Need-cast-result
@@ -81,12 +83,14 @@ cast-result c = search needs
 
 returns-3 : tie.Need-returns-3
 returns-3 c =
-    let a = c .before .before .before .before .before .before .before .before .before .before .before .before .before .before .before .args in
+    let a = c .before .before .before .before .before .before .before .before .before .before .before .before .before .before .before
+    .args in
     let k = c .before .before .before .before .before .before .before .before .before .before .before .before .compile in
     let m = c .before .before .before .before .before .before .before .before .before .emission .given .1 in
     let r = c .before .before .before .write in
     let s = cells-are (a .width) (a .table .now) (k .result) (k .ensures .0) _ _ _ _ m _ _ refl (k .ensures .1) in
-    text-written (a .width) (a .table .now) (k .result) (k .ensures .0) _ _ _ _ m _ _ _ s (sym (c .before .before .before .before .write-arg .given .0 .1)) (r .result) (r .ensures .0) (r .ensures .1) _ (c .before .written .given .1)
+    text-written (a .width) (a .table .now) (k .result) (k .ensures .0) _ _ _ _ m _ _ _ s (sym (c .before .before .before .before
+    .write-arg .given .0 .1)) (r .result) (r .ensures .0) (r .ensures .1) _ (c .before .written .given .1)
 
 pub print-spec : {M : Type 1} → statement M
 print-spec =
