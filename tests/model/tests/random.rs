@@ -75,6 +75,9 @@ fn tables_reach_the_limits() {
         let cells = |table: &[u32]| model::table::check(8, table).expect("accepted").cells();
         assert_eq!(cells(&filled), cells(&table));
     }
+    let deep: Vec<Vec<u32>> = (0..200).map(|_| limits::deep(&mut random, 8)).collect();
+    assert!(deep.iter().all(|table| model::table::check(8, table).is_ok() && table.len() > 400));
+    assert!(deep.iter().any(|table| table.len() == 1024));
 }
 
 #[test]

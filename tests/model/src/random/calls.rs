@@ -105,6 +105,10 @@ fn table(random: &mut Random) -> (u32, Vec<u32>) {
             let width = random.width();
             return (width, limits::filled(&accepted(random, width, 100, 4096)));
         }
+        13 => {
+            let width = random.width();
+            return (width, limits::deep(random, width));
+        }
         _ => {}
     }
     let (width, terms) = (random.width(), random.pick(&[8, 30, 100, 256]) as usize);

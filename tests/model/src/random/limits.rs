@@ -1,7 +1,8 @@
-//! Makes tables at the limits of document 01: as many terms as there may be, and as many cells as
-//! there may be or one more.
+//! Makes tables at the limits of document 01: as many terms as there may be, as many cells as there
+//! may be or one more, and terms in terms as deep as both allow.
 
 use super::Random;
+use crate::table::check;
 
 /// Puts terms that nobody names in front of a table, up to 256 in all.
 pub fn filled(table: &[u32]) -> Vec<u32> {
@@ -35,6 +36,29 @@ pub fn cells(random: &mut Random, one_more: bool) -> Vec<u32> {
     if let [_, _, e, f, g] = chains[..] {
         let choice = add(&mut table, [3, e, f, g]);
         add(&mut table, [2, pair, choice, 0]);
+    }
+    table
+}
+
+/// Makes a table over one word in which each term is a part of the next, until no more terms or
+/// cells fit. The parts are such that a run goes all the way down.
+pub fn deep(random: &mut Random, width: u32) -> Vec<u32> {
+    let (leaf, one, zero) = (0, 1, 2);
+    let mut table = vec![20, 0, 0, 0, 9, 1, 1, 0, 9, 1, 0, 0];
+    let mut last = leaf;
+    // Seq gives the deepest tables, as it has the fewest cells.
+    let seqs = random.pick(&[0, 50, 95]);
+    while table.len() < 1024 {
+        let choices = [[3, one, last, leaf], [3, zero, leaf, last], [4, one, last, leaf]];
+        let term = match random.chance(seqs) {
+            true => [[1, last, leaf, 0], [1, leaf, last, 0]][random.below(2) as usize],
+            false => choices[random.below(3) as usize],
+        };
+        last = add(&mut table, term);
+        if check(width, &table).is_err() {
+            table.truncate(table.len() - 4);
+            break;
+        }
     }
     table
 }
