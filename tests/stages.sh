@@ -8,11 +8,6 @@ passed=0
 failed=0
 begun=$SECONDS
 
-# Says whether the repository has a crate of this name.
-has() {
-    grep -q "^$1:" crates.txt
-}
-
 # Shows the end of a log whose command failed.
 show_end() {
     printf '== %s failed; the end of its output:\n' "$1"
