@@ -8,3 +8,4 @@ pub mod Fitting
 pub mod Answering
 pub mod ByteByByte
 pub mod Underway
+pub mod Unique
