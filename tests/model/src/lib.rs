@@ -9,6 +9,7 @@
 //! - `evaluate`: the words and cycles of a table on given words, with `straight` for long loops;
 //! - `compile`: from a table to cells;
 //! - `cells`: checks 12 to 16;
+//! - `runs`: document 01's small runs;
 //! - `simulate`: one cycle of a netlist;
 //! - `verilog`: the text of a netlist;
 //! - `program`: what the program prints for its input.
@@ -25,6 +26,7 @@ pub mod icarus;
 pub mod program;
 pub mod promise;
 pub mod random;
+pub mod runs;
 pub mod simulate;
 pub mod straight;
 pub mod table;
