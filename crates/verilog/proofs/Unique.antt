@@ -22,5 +22,6 @@ pub listed-unique : (l : List ℕ) (r q : Listed) → r ≡ listedIn l → q ≡
 listed-unique l r q a b = a ∙ sym b
 
 -- A piece written from an index on.
-pub wrote-unique : {old piece new other : List ℕ} {i r q : ℕ} → Wrote old i piece r new → Wrote old i piece q other → (r ≡ q) × (new ≡ other)
+pub wrote-unique : {old piece new other : List ℕ} {i r q : ℕ} →
+    Wrote old i piece r new → Wrote old i piece q other → (r ≡ q) × (new ≡ other)
 wrote-unique a b = (a .next-is ∙ sym (b .next-is), a .holds ∙ sym (b .holds))
