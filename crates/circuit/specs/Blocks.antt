@@ -8,7 +8,7 @@ use Rattle.meaning.specs.Choices.{pick, at}
 use Rattle.meaning.specs.Words.{arity}
 use Rattle.meaning.specs.Terms.{Term, leaf, seq, par, ite, rec}
 use Rattle.circuit.specs.Cells.{Cell, cell, notCell, andCell, orCell, lowRegister, constantCell, wordRegister, choiceCell, copyCell}
-use Rattle.circuit.specs.Pieces.{_after_, Block, Emitter, wiresFrom, rise, keeps, kept, choices, registers, gates, ending}
+use Rattle.circuit.specs.Pieces.{_after_, Emitter, wiresFrom, rise, keeps, kept, choices, registers, gates, ending}
 
 -- The operation cell of a leaf: Const its constant, Field a copy of the word that it names, the others their kind on their words.
 abbrev pub operationCell : ℕ → ℕ → List ℕ → Cell

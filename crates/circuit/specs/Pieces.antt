@@ -3,7 +3,7 @@
 use Prim.Native.Nat.{ℕ, zero, suc}
 use mathlib.Core.List.{List, [], _∷_, _++_}
 use Rattle.meaning.specs.Choices.{at}
-use Rattle.circuit.specs.Cells.{Cell, cell, notCell, andCell, highRegister, nonzeroCell, wordRegister, choiceCell}
+use Rattle.circuit.specs.Cells.{Cell, notCell, andCell, highRegister, nonzeroCell, wordRegister, choiceCell}
 
 infixl 65 _after_
 -- `3 after p` is the wire three after p.

@@ -1,6 +1,6 @@
 -- Answers: what the checks and the evaluator answer, and each answer's numbers. Definitions only.
 -- Document 01: "Cycles", "Refusal numbers". Read after: `Checks`, `Cycles`. Assumes nothing.
-use Prim.Native.Nat.{ℕ, zero, _^_}
+use Prim.Native.Nat.{ℕ, _^_}
 use mathlib.Core.Bool.{Bool}
 use mathlib.Core.List.{List, [], _∷_, _++_}
 use lib.Dec.{eqb}

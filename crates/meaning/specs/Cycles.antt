@@ -1,7 +1,7 @@
 -- Cycles: what a term gives on words and how long it takes, cut off at a budget. Definitions only.
 -- Document 01: "Cycles". Read after: `Terms`. Assumes nothing.
 use Prim.Native.Nat.{ℕ, zero, suc, _+_, _-_, max}
-use mathlib.Core.Bool.{Bool, true, false}
+use mathlib.Core.Bool.{Bool}
 use mathlib.Core.List.{[], _∷_, _++_}
 use lib.Dec.{eqb, ltb}
 use Rattle.meaning.specs.Choices.{pick, bit, at}

@@ -8,7 +8,6 @@ use mathlib.Core.List.{List, [], _∷_, _++_}
 use lib.Dec.{eqb, ltb, leb}
 use lib.ListN.{length}
 use Rattle.meaning.specs.Choices.{pick, and, or, padded}
-use Rattle.verilog.specs.declared.Reading.{Reading}
 use Rattle.verilog.specs.declared.Reading.the-variants as reading
 use Rattle.verilog.specs.declared.Listed.{Listed}
 
