@@ -8,7 +8,7 @@ use Rattle.meaning.specs.declared.Verdict.the-variants as verdict
 use Rattle.meaning.specs.Choices.{or}
 use Rattle.circuit.specs.Cells.{kindAt, cellCount, bitKind, wordKind}
 use Rattle.circuit.specs.Netlists.{numberFits, wireFits, sortFits, allPorts, cellRefusal, netlistVerdict}
-use Rattle.circuit.proofs.Verdicts.{not-refused}
+use Rattle.meaning.proofs.Verdicts.{not-refused}
 use Rattle.circuit.proofs.Refusals.{refused-none}
 use Rattle.circuit.proofs.Checked.{checked}
 

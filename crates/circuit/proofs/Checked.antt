@@ -13,7 +13,7 @@ use Rattle.meaning.specs.Checks.{widthFits, firstRefusal}
 use Rattle.meaning.proofs.Tests.{both}
 use Rattle.circuit.specs.Cells.{stride, kindAt, cellCount, cellAt, bitKind, wordKind}
 use Rattle.circuit.specs.Netlists.{netlistFits, cellRefusal, netlistVerdict}
-use Rattle.circuit.proofs.Verdicts.{not-refused, went-on, none-refused, scan-passes}
+use Rattle.meaning.proofs.Verdicts.{not-refused, went-on, none-refused, scan-passes}
 use Rattle.circuit.proofs.Passes.{Passes}
 use Rattle.circuit.proofs.Refusals.{refusalOf, passes-of, refused-none}
 

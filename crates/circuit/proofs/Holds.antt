@@ -35,7 +35,7 @@ use Rattle.circuit.proofs.Streams.{Bits, Wires}
 use Rattle.circuit.proofs.Equations.{Obeys}
 use Rattle.circuit.proofs.Whole.{whole-keeps}
 use Rattle.circuit.proofs.Indexed.{by-cells, of-cell, count-numbers, cells-numbers}
-use Rattle.circuit.proofs.Verdicts.{scan-passes}
+use Rattle.meaning.proofs.Verdicts.{scan-passes}
 use Rattle.circuit.proofs.Passes.{Passes, more-given, input-given}
 use Rattle.circuit.proofs.Checked.{Checked, checking}
 use Rattle.circuit.proofs.Clocked.{clocked, obeyed, wires-count, lower-only}

@@ -21,7 +21,6 @@ pub mod Wired
 pub mod Whole
 -- The checks 12 to 16, and that every wire obeys its cell where they pass.
 pub mod Indexed
-pub mod Verdicts
 pub mod Passes
 pub mod Refusals
 pub mod Checked

@@ -14,7 +14,7 @@ use Rattle.meaning.specs.Words.{arity}
 use Rattle.meaning.proofs.Tests.{clash, split, both, either}
 use Rattle.circuit.specs.Cells.{Cell, cell, kindAt, bitKind, wordKind, ports, portsOf}
 use Rattle.circuit.specs.Netlists.{numberFits, wireFits, sortFits}
-use Rattle.circuit.proofs.Verdicts.{not-refused}
+use Rattle.meaning.proofs.Verdicts.{not-refused}
 use Rattle.circuit.proofs.Passes.{
   BitBelow,
   WordBelow,

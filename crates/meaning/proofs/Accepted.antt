@@ -1,22 +1,22 @@
 -- Law: checks 3 to 8 pass exactly where a row of document 01's term table holds, and the verdict accepts exactly where
 -- every row, the width, the length and the size do. Assumes nothing.
 use Prim.Native.Nat.{ℕ, zero, suc, _+_, _*_, _%_, _^_, _≤_, _<_}
-use mathlib.Core.Path.{_≡_, refl}
-use mathlib.Core.Bool.{Bool, true, false}
+use mathlib.Core.Path.{_≡_}
+use mathlib.Core.Bool.{true}
 use mathlib.Core.List.{List}
 use mathlib.Core.Logic.{inl, inr}
 use native.Mathlib.Omega.{arith}
-use lib.Dec.{eqb, ltb, leb}
+use lib.Dec.{eqb, leb}
 use lib.ListN.{length}
 use borrow.Author.Tests.{ltb-true, eqb-true, leb-true, lt-leb, ne-eqb}
-use Rattle.meaning.specs.declared.Verdict.{Verdict}
 use Rattle.meaning.specs.declared.Verdict.the-variants as verdict
-use Rattle.meaning.specs.Choices.{pick, or}
+use Rattle.meaning.specs.Choices.{or}
 use Rattle.meaning.specs.Terms.{numberOf, kindOf, count, mainOf}
 use Rattle.meaning.specs.Counts.{ins, outs, wholeSize}
 use Rattle.meaning.specs.Checks.{knownKind, operandsOf, usedOf, unusedZero, valuesFit, operandsBelow, operandTree, testFits}
-use Rattle.meaning.specs.Checks.{countsFit, parSmall, refusalAt, sizeVerdict, firstRefusal, verdictOf}
+use Rattle.meaning.specs.Checks.{countsFit, parSmall, refusalAt, sizeVerdict, verdictOf}
 use Rattle.meaning.proofs.Tests.{clash, split, both, either}
+use Rattle.meaning.proofs.Verdicts.{not-refused, went-on, none-refused}
 
 -- Term k passes checks 3 to 8: a row of document 01's table each.
 pub data Fits (w : ℕ) (t : List ℕ) (k : ℕ) : Type 0 where
@@ -67,11 +67,6 @@ by-kind k h s p i r c f o =
     let u : k ≤ 22 = leb-true _ _ (q .1) in
     elim (split k 13) [ inl d ↦ f (omega arith) | inr d ↦ o d u ]))
 
--- What no refusal leaves of a choice between going on and a refusal.
-kept : (b : Bool) (x n : ℕ) → ltb 0 n ≡ true → pick b x n ≡ 0 → (b ≡ true) × (x ≡ 0)
-kept true x n l h = (refl, h)
-kept false x n l h = absurd (omega (arith, ltb-true 0 n l))
-
 -- The six tests of a term.
 record Passed (w : ℕ) (t : List ℕ) (k : ℕ) : Type 0 where
   known : knownKind (kindOf t k) ≡ true
@@ -84,12 +79,12 @@ record Passed (w : ℕ) (t : List ℕ) (k : ℕ) : Type 0 where
 passed : (w : ℕ) (t : List ℕ) (k : ℕ) → refusalAt w t k ≡ 0 → Passed w t k
 unfolding refusalAt
 passed w t k h =
-    let a = kept _ _ 3 refl h in
-    let b = kept _ _ 4 refl (a .1) in
-    let c = kept _ _ 5 refl (b .1) in
-    let d = kept _ _ 6 refl (c .1) in
-    let e = kept _ _ 7 refl (d .1) in
-    let f = kept _ _ 8 refl (e .1) in
+    let a = not-refused _ _ _ h in
+    let b = not-refused _ _ _ (a .1) in
+    let c = not-refused _ _ _ (b .1) in
+    let d = not-refused _ _ _ (c .1) in
+    let e = not-refused _ _ _ (d .1) in
+    let f = not-refused _ _ _ (e .1) in
     record { known = a .0; unused = b .0; values = c .0; below = d .0; counts = e .0; few = f .0 }
 
 -- An unused number is 0; an operand is below its term.
@@ -201,25 +196,6 @@ fits w t k h =
     let p : Passed w t k = passed w t k h in
     by-kind (kindOf t k) (p .known) (on-seq w t k p) (on-par w t k p) (on-ite w t k p) (on-rec w t k p) (on-const w t k p)
     (on-field w t k p) (on-op w t k p)
-
--- The verdict: what accepting leaves of a choice between going on and a refusal.
-went-on : (b : Bool) (v : Verdict) (n p : ℕ) → pick b v (verdict.Refused n p) ≡ verdict.Accepted → (b ≡ true) × (v ≡ verdict.Accepted)
-went-on true v n p h = (refl, h)
-went-on false v n p h = let z : _≡_ {A = ℕ} 0 1 = cc in absurd (omega arith)
-
-none-refused : (number : ℕ → ℕ) (n k : ℕ) (v : Verdict) → firstRefusal number n k v ≡ verdict.Accepted →
-    ((j : ℕ) → k ≤ j → j < k + n → number j ≡ 0) × (v ≡ verdict.Accepted)
-unfolding firstRefusal
-none-refused number zero k v h = ((λ j l u. absurd (omega arith)), h)
-none-refused number (suc n) k v h =
-    let a = went-on _ _ _ _ h in
-    let r = none-refused number n (suc k) v (a .1) in (
-      (λ j l u. elim (split k j) [
-        | inl b ↦ r .0 j b (omega arith)
-        | inr b ↦ (let q : j ≡ k = omega arith in rw q (eqb-true _ _ (a .0)))
-      ]),
-      r .1,
-    )
 
 pub accepted : (w : ℕ) (t : List ℕ) → verdictOf w t ≡ verdict.Accepted → Accepted w t
 unfolding verdictOf

@@ -1,18 +1,18 @@
 -- Law: a table whose terms all fit, with its width, length and size, gets the verdict Accepted: with `Accepted`, exactly those
 -- do. Assumes nothing.
-use Prim.Native.Nat.{ℕ, zero, suc, _+_, _%_, _≤_, _<_}
-use mathlib.Core.Path.{_≡_, refl}
+use Prim.Native.Nat.{ℕ, _%_, _≤_}
+use mathlib.Core.Path.{_≡_}
 use mathlib.Core.Bool.{true}
 use mathlib.Core.List.{List}
 use native.Mathlib.Omega.{arith}
 use lib.ListN.{length}
 use borrow.Author.Tests.{lt-ltb, le-leb, lt-leb, eq-eqb, ne-eqb}
-use Rattle.meaning.specs.declared.Verdict.{Verdict}
 use Rattle.meaning.specs.declared.Verdict.the-variants as verdict
 use Rattle.meaning.specs.Terms.{numberOf, kindOf, count, mainOf}
 use Rattle.meaning.specs.Counts.{wholeSize}
 use Rattle.meaning.specs.Checks.{knownKind, operandsOf, usedOf, valuesFit, operandsBelow, countsFit, parSmall, refusalAt}
-use Rattle.meaning.specs.Checks.{firstRefusal, verdictOf}
+use Rattle.meaning.specs.Checks.{verdictOf}
+use Rattle.meaning.proofs.Verdicts.{scan-passes}
 use Rattle.meaning.proofs.Accepted.{Fits, seq-fits, par-fits, ite-fits, rec-fits, const-fits, field-fits, op-fits, Accepted}
 
 module _ (w : ℕ) (t : List ℕ) (k : ℕ) where
@@ -65,12 +65,6 @@ module _ (w : ℕ) (t : List ℕ) (k : ℕ) where
   fits-passes (field-fits e z a b v) = cc (eq-eqb _ _ z, le-leb _ _ a, le-leb _ _ b, lt-ltb _ _ v)
   fits-passes (op-fits l u a b c) = op-passes (plain l u) a b c
 
-passes-on : (number : ℕ → ℕ) (n k : ℕ) (v : Verdict) → ((j : ℕ) → k ≤ j → j < k + n → number j ≡ 0) → firstRefusal number n k v ≡ v
-unfolding firstRefusal
-passes-on number zero k v h = refl
-passes-on number (suc n) k v h =
-    rw (eq-eqb (number k) 0 (h k (omega arith) (omega arith))) (passes-on number n (suc k) v (λ j l u. h j (omega arith) (omega arith)))
-
 pub accepting : (w : ℕ) (t : List ℕ) → Accepted w t → verdictOf w t ≡ verdict.Accepted
 unfolding verdictOf
 accepting w t a =
@@ -82,6 +76,6 @@ accepting w t a =
       le-leb 1 (length t) (omega arith),
       eq-eqb (length t % 4) 0 (omega arith),
       le-leb (length t) 1024 (omega arith),
-      passes-on (refusalAt w t) (count t) 0 _ (λ j l u. fits-passes w t j (a .fits j (omega arith))),
+      scan-passes (refusalAt w t) (count t) 0 _ (λ j l u. fits-passes w t j (a .fits j (omega arith))),
       le-leb (wholeSize (mainOf t)) 4096 (a .small),
     )

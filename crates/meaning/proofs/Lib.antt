@@ -1,5 +1,6 @@
 -- What is shown of the definitions.
 pub mod Tests
+pub mod Verdicts
 pub mod Lists
 pub mod Decoded
 pub mod Accepted

@@ -18,7 +18,7 @@ use Rattle.circuit.specs.Cells.{cellCount}
 use Rattle.circuit.specs.Netlists.{netlistVerdict}
 use Rattle.circuit.specs.Clock.{powerUp, step}
 use Rattle.circuit.specs.Simulated.{inputsGiven, inputsVerdict, wireRefusal, powerUpVerdict, stepVerdict, wiresAtStart, wiresAfter}
-use Rattle.circuit.proofs.Verdicts.{went-on}
+use Rattle.meaning.proofs.Verdicts.{went-on}
 use Rattle.cells.proofs.Scan.{scan-then}
 use Rattle.simulator.specs.Ready.{Ready}
 
