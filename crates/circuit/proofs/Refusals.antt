@@ -66,11 +66,11 @@ module _ {P : Type 0} (k : ℕ) where
       peel k 8 l p8 (λ a. peel k 9 a p9 (λ b. peel k 10 b p10 (λ c. peel k 11 c p11 (λ d. peel k 12 d p12 (λ e.
       elim (split k 20) [ inl f ↦ two e (omega arith) | inr f ↦ one f u ])))))
 
--- The ports of the operations.
-no-small-kind : (k : ℕ) → 13 ≤ k → portsOf k ≡
+-- The operations share a row of ports.
+pub operation-ports : (k : ℕ) → 13 ≤ k → portsOf k ≡
     pick (eqb (arity k) 2) (ports port.Word port.Word port.Unused) (ports port.Word port.Unused port.Unused)
 unfolding portsOf
-no-small-kind k l = rw (
+operation-ports k l = rw (
   ne-eqb k 0 (λ q. omega arith),
   ne-eqb k 1 (λ q. omega arith),
   ne-eqb k 2 (λ q. omega arith),
@@ -85,11 +85,11 @@ no-small-kind k l = rw (
   ne-eqb k 11 (λ q. omega arith),
 )
 
-two-ports : (k : ℕ) → 13 ≤ k → k ≤ 19 → portsOf k ≡ ports port.Word port.Word port.Unused
-two-ports k l u = no-small-kind k l ∙ rw (lt-ltb k 20 (omega arith))
+pub two-ports : (k : ℕ) → 13 ≤ k → k < 20 → portsOf k ≡ ports port.Word port.Word port.Unused
+two-ports k l u = operation-ports k l ∙ rw (lt-ltb k 20 u)
 
-one-ports : (k : ℕ) → 20 ≤ k → k ≤ 22 → portsOf k ≡ ports port.Word port.Unused port.Unused
-one-ports k l u = no-small-kind k (omega arith) ∙ rw (le-ltb k 20 l)
+pub one-port : (k : ℕ) → 20 ≤ k → portsOf k ≡ ports port.Word port.Unused port.Unused
+one-port k l = operation-ports k (omega arith) ∙ rw (le-ltb k 20 l)
 
 -- A port's three tests, in the netlist that has the wires' kinds.
 module _ (w : ℕ) (net : List ℕ) (count n : ℕ) where
@@ -160,12 +160,12 @@ module _ (w count : ℕ) (kinds : ℕ → ℕ) (n : ℕ) where
 
   two-row : (k x y z : ℕ) → 13 ≤ k → k ≤ 19 → Ported w count kinds n k x y z → Passes w 16 count kinds n (cell k x y z)
   two-row k x y z l u p =
-      let e = two-ports k l u in
+      let e = two-ports k l (omega arith) in
       same-cell refl refl refl (rw e at (p .on-z)) (two-passes k x y l u (rw e at (p .on-x)) (rw e at (p .on-y)))
 
   one-row : (k x y z : ℕ) → 20 ≤ k → k ≤ 22 → Ported w count kinds n k x y z → Passes w 16 count kinds n (cell k x y z)
   one-row k x y z l u p =
-      let e = one-ports k l u in
+      let e = one-port k l in
       same-cell refl refl (rw e at (p .on-y)) (rw e at (p .on-z)) (one-passes k x l u (rw e at (p .on-x)))
 
   row : (k x y z : ℕ) → or (bitKind k) (wordKind k) ≡ true → Ported w count kinds n k x y z → Passes w 16 count kinds n (cell k x y z)
@@ -209,7 +209,7 @@ module _ (w : ℕ) (net : List ℕ) (count n : ℕ) where
     lt-leb k 6 (omega arith),
     le-leb 8 k (omega arith),
     le-leb k 22 (omega arith),
-    two-ports k l u,
+    two-ports k l (omega arith),
     lt-ltb x n (a .0),
     lt-ltb y n (b .0),
     word-sort x (a .1),
@@ -221,7 +221,7 @@ module _ (w : ℕ) (net : List ℕ) (count n : ℕ) where
     lt-leb k 6 (omega arith),
     le-leb 8 k (omega arith),
     le-leb k 22 (omega arith),
-    one-ports k l u,
+    one-port k l,
     lt-ltb x n (a .0),
     word-sort x (a .1),
   )

@@ -91,7 +91,7 @@ passed w t k h =
 unused-zero : (j u x : ℕ) → or (leb j u) (eqb x 0) ≡ true → u < j → x ≡ 0
 unused-zero j u x h l = either _ _ h (λ a. clash _ a (lt-leb j u l)) (λ a. eqb-true _ _ a)
 
-operand-below : (t : List ℕ) (k n : ℕ) → operandsBelow t k n ≡ true → (j : ℕ) → 1 ≤ j → j ≤ n → numberOf t k j < k
+pub operand-below : (t : List ℕ) (k n : ℕ) → operandsBelow t k n ≡ true → (j : ℕ) → 1 ≤ j → j ≤ n → numberOf t k j < k
 unfolding operandsBelow
 operand-below t k zero h j l u = absurd (omega arith)
 operand-below t k (suc n) h j l u =
