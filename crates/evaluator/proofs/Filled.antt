@@ -1,26 +1,12 @@
--- Law: check 11 word by word, and an array of 16 filled with words one by one. Assumes nothing.
-use Prim.Native.Nat.{ℕ, zero, suc, _+_, _-_, _≤_, _<_}
-use mathlib.Core.Path.{_≡_, refl, sym, ap, _∙_}
-use mathlib.Core.Bool.{Bool, true, false}
+-- Law: an array of 16 filled with words one by one. Assumes nothing.
+use Prim.Native.Nat.{ℕ, suc, _+_, _-_, _≤_, _<_}
+use mathlib.Core.Path.{_≡_, sym, ap, _∙_}
 use mathlib.Core.List.{List, [], _∷_, _++_, append-assoc}
 use native.Mathlib.Numerals.{add-one}
 use native.Mathlib.Omega.{arith}
-use lib.Dec.{ltb}
 use lib.ListN.{length, take, set, replicate}
 use lib.Seq.{take-suc, take-all, length-take-le, set-at}
-use borrow.Author.Tests.{le-ltb}
-use Rattle.meaning.specs.Choices.{and, at, padded, allBelow}
-
-and-false : (a b : Bool) → b ≡ false → and a b ≡ false
-and-false true b h = h
-and-false false b h = refl
-
--- A word that is not below the bound is enough.
-pub not-all-below : (b : ℕ) (l : List ℕ) (j : ℕ) → j < length l → b ≤ at l j → allBelow b l ≡ false
-unfolding allBelow
-not-all-below b [] j h k = absurd (omega arith)
-not-all-below b (a ∷ l) zero h k = rw (le-ltb a b k)
-not-all-below b (a ∷ l) (suc j) h k = and-false (ltb a b) (allBelow b l) (not-all-below b l j (omega arith) k)
+use Rattle.meaning.specs.Choices.{at, padded}
 
 -- One word more.
 module _ (x : List ℕ) (few : length x ≤ 16) (i : ℕ) where

@@ -11,17 +11,7 @@ pub fn fit(width: u32, taken: usize, input: &[u32]) -> bool
     requires { ⌜ width ≤ 32 ⌝ }
     ensures { λ r. ⌜ r ≡ wordsFit width taken (now (input .entry)) ⌝ }
 {
-    if input.len() != taken {
-        return false;
-    }
-    let mut i = 0;
-    while i < input.len() {
-        if !words::fits(width, input[i]) {
-            return false;
-        }
-        i = i + 1;
-    }
-    true
+    input.len() == taken && words::all_fit(width, input)
 }
 
 // The words, and zeros after them.

@@ -15,7 +15,7 @@ ghost use Rattle.meaning.specs.Checks.{
 ghost use Rattle.terms.specs.Early.{earlyOf};
 
 // A number is one of those from low to high.
-pub fn within(x: u32, low: u32, high: u32) -> bool
+fn within(x: u32, low: u32, high: u32) -> bool
     ensures { λ r. ⌜ r ≡ and (leb low x) (leb x high) ⌝ }
 {
     low <= x && x <= high

@@ -56,7 +56,7 @@ fn length_fits(len: usize) -> bool
 fn framed(width: u32, table: &[u32]) -> Verdict
     ensures { λ r. ⌜ r ≡ framedOf width (now (table .entry)) ⌝ }
 {
-    if !kinds::within(width, 1, 32) {
+    if !words::width_fits(width) {
         return Verdict::Refused(1, 0);
     }
     if !length_fits(table.len()) {

@@ -1,2 +1,3 @@
--- What is shown of the operations: sums and differences that wrap, once over the width.
+-- What is shown of words: sums and differences that wrap, once over the width, and numbers judged one by one.
 pub mod Wrapping
+pub mod Below

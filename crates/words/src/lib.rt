@@ -5,7 +5,7 @@
 ghost use mathlib.Core.Path.{_≡_};
 ghost use Prim.Native.Nat.{_-_, _%_, _^_, _≤_};
 ghost use lib.Dec.{ltb};
-ghost use Rattle.meaning.specs.Choices.{num};
+ghost use Rattle.meaning.specs.Choices.{num, allBelow};
 ghost use Rattle.meaning.specs.Words.{
   sum,
   difference,
@@ -13,6 +13,14 @@ ghost use Rattle.meaning.specs.Words.{
   shiftLeft,
   operation,
 };
+ghost use Rattle.meaning.specs.Checks.{widthFits};
+
+// Whether words may have this many bits: 1 to 32.
+pub fn width_fits(width: u32) -> bool
+    ensures { λ r. ⌜ r ≡ widthFits width ⌝ }
+{
+    1 <= width && width <= 32
+}
 
 // How many words there are of a width: one past the largest.
 fn past(width: u32) -> u64
@@ -101,4 +109,19 @@ pub fn fits(width: u32, x: u32) -> bool
     ensures { λ r. ⌜ r ≡ ltb x (2 ^ width) ⌝ }
 {
     (x as u64) < past(width)
+}
+
+// Whether every number is a word of the width.
+pub fn all_fit(width: u32, words: &[u32]) -> bool
+    requires { ⌜ width ≤ 32 ⌝ }
+    ensures { λ r. ⌜ r ≡ allBelow (2 ^ width) (now (words .entry)) ⌝ }
+{
+    let mut j: usize = 0;
+    while j < words.len() {
+        if !fits(width, words[j]) {
+            return false;
+        }
+        j = j + 1;
+    }
+    true
 }
