@@ -26,10 +26,10 @@ use Rattle.meaning.proofs.Lists.{column-at}
 use Rattle.meaning.proofs.Accepted.{accepted}
 use Rattle.meaning.proofs.Typed.{ins-few}
 use Rattle.meaning.proofs.Alike.{padded-evaluates}
-use Rattle.evaluator.specs.Runs.{Ready, termFrom, Leaves}
+use Rattle.runs.specs.Runs.{Ready, termFrom, Leaves}
 use Rattle.evaluator.specs.Answered.{ranOn, acceptedOn}
-use Rattle.evaluator.proofs.Turns.{gave, was-unfinished}
-use Rattle.evaluator.proofs.Parts.{counted, in-array}
+use Rattle.runs.proofs.Turns.{gave, was-unfinished}
+use Rattle.runs.proofs.Parts.{counted, in-array}
 
 module _ {w : ℕ} {t given : List ℕ} (r : Ready w t given) where
   some : 1 ≤ count t

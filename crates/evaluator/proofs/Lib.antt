@@ -1,7 +1,4 @@
--- The laws that the proofs share.
-pub mod Joined
+-- The laws that the proofs share, and that the answer is one.
 pub mod Filled
-pub mod Turns
-pub mod Parts
 pub mod Answered
 pub mod Unique

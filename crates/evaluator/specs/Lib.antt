@@ -1,3 +1,2 @@
--- What the parts of the evaluator are asked, and what they leave. Definitions only.
-pub mod Runs
+-- What the evaluator says of an accepted table. Definitions only.
 pub mod Answered

@@ -4,11 +4,8 @@
 //
 //     evaluate  the checks, the words, then the run of the main term
 //     inputs    check 11, and the words in an array of 16
-//     runs      the term evaluator, a combinator at a time, and the round evaluator of Rec
-//     leaves    terms of kind 9 and above, and the words and cycles of the two sides of Par
+//     ran       the run of the main term, by the term evaluator of `runs`
 mod inputs;
-mod leaves;
-mod runs;
 
 use meaning::End;
 use meaning::Evaluated;
@@ -20,7 +17,7 @@ ghost use lib.ListN.{length};
 ghost use Rattle.meaning.specs.Terms.{mainOf};
 ghost use Rattle.meaning.specs.Counts.{ins};
 ghost use Rattle.meaning.specs.Answers.{«without», evaluatedOf};
-ghost use Rattle.evaluator.specs.Runs.{Ready};
+ghost use Rattle.runs.specs.Runs.{Ready};
 ghost use Rattle.evaluator.specs.Answered.{ranOn, acceptedOn};
 
 // An outcome that has no words.

@@ -1,7 +1,7 @@
 -- Proof: `accepted` meets its contract: check 11 decides between refusal 11 and the run. Assumes nothing.
 use mathlib.Core.Path.{sym, _∙_}
 use borrow.Author.Tests.{not-true, not-false}
-use Rattle.evaluator.proofs.Parts.{wide}
+use Rattle.runs.proofs.Parts.{wide}
 use Rattle.evaluator.proofs.Answered.{fit-few}
 use borrow.Author.Needs.{needs}
 use Rattle.evaluator.proofs.accepted.Statement.{statement}

@@ -4,12 +4,12 @@ use Prim.Native.Nat.{ℕ}
 use native.Mathlib.Omega.{arith}
 use borrow.Author.Needs.{needs}
 use Rattle.meaning.specs.Terms.{tree}
-use Rattle.evaluator.proofs.Turns.{leaves-as, Gave, gave}
-use Rattle.evaluator.proofs.Turns.{ite-unfinished, ite-from-then, ite-from-else}
-use Rattle.evaluator.proofs.Parts.{IteParts, long, ite-parts}
-use Rattle.evaluator.proofs.runs.+ite+par+rounds+seq+term.Proof.Measures.{ite-at, ite-calls}
-use Rattle.evaluator.proofs.runs.ite.Reads as ite
-use Rattle.evaluator.proofs.runs.+ite+par+rounds+seq+term.Lts-ite as ite-lts
+use Rattle.runs.proofs.Turns.{leaves-as, Gave, gave}
+use Rattle.runs.proofs.Turns.{ite-unfinished, ite-from-then, ite-from-else}
+use Rattle.runs.proofs.Parts.{IteParts, long, ite-parts}
+use Rattle.runs.proofs.+ite+par+rounds+seq+term.Proof.Measures.{ite-at, ite-calls}
+use Rattle.runs.proofs.ite.Reads as ite
+use Rattle.runs.proofs.+ite+par+rounds+seq+term.Lts-ite as ite-lts
 
 module _ (t : ℕ) where
   -- Ite: its parts, and what e gave.

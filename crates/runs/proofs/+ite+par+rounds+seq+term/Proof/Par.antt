@@ -5,13 +5,13 @@ use native.Mathlib.Omega.{arith}
 use borrow.Author.Needs.{needs}
 use Rattle.meaning.specs.declared.End.the-variants.{Ended}
 use Rattle.meaning.specs.Terms.{count, tree}
-use Rattle.evaluator.proofs.Turns.{Gave, gave, par-unfinished, par-unfinished-second}
-use Rattle.evaluator.proofs.Turns.{par-done}
-use Rattle.evaluator.proofs.Parts.{ParParts, long, in-array, par-parts}
-use Rattle.evaluator.proofs.Parts.{counted, given-few, gave-length, array-length}
-use Rattle.evaluator.proofs.runs.+ite+par+rounds+seq+term.Proof.Measures.{par-at, par-calls}
-use Rattle.evaluator.proofs.runs.par.Reads as par
-use Rattle.evaluator.proofs.runs.+ite+par+rounds+seq+term.Lts-par as par-lts
+use Rattle.runs.proofs.Turns.{Gave, gave, par-unfinished, par-unfinished-second}
+use Rattle.runs.proofs.Turns.{par-done}
+use Rattle.runs.proofs.Parts.{ParParts, long, in-array, par-parts}
+use Rattle.runs.proofs.Parts.{counted, given-few, gave-length, array-length}
+use Rattle.runs.proofs.+ite+par+rounds+seq+term.Proof.Measures.{par-at, par-calls}
+use Rattle.runs.proofs.par.Reads as par
+use Rattle.runs.proofs.+ite+par+rounds+seq+term.Lts-par as par-lts
 
 module _ (t : ℕ) where
   -- Par: its parts, and what f and g gave.

@@ -1,25 +1,25 @@
 -- Proof: the term evaluator and its combinators meet their contracts. Measure: twice the term's number, one more for `term`.
 -- The folder beside this file has what each function needs; mathematics in `proofs.Turns` and `proofs.Parts`. Assumes nothing.
-use Rattle.evaluator.proofs.runs.+ite+par+rounds+seq+term.Proof.Seq as seq-needs
-use Rattle.evaluator.proofs.runs.+ite+par+rounds+seq+term.Proof.Par as par-needs
-use Rattle.evaluator.proofs.runs.+ite+par+rounds+seq+term.Proof.Ite as ite-needs
-use Rattle.evaluator.proofs.runs.+ite+par+rounds+seq+term.Proof.Rounds as rounds-needs
-use Rattle.evaluator.proofs.runs.+ite+par+rounds+seq+term.Proof.Term as term-needs
-use Rattle.evaluator.proofs.runs.+ite+par+rounds+seq+term.Proof.Measures.{μ-seq, μ-par, μ-ite, μ-rounds, μ-term}
-use Rattle.evaluator.proofs.runs.+ite+par+rounds+seq+term.Proof.Measures.{seq-at, par-at, ite-at, rounds-at, term-at}
-use Rattle.evaluator.proofs.runs.+ite+par+rounds+seq+term.Proof.Measures.{seq-calls, par-calls, ite-calls, rounds-calls, term-calls}
-use Rattle.evaluator.proofs.runs.seq.Reads as seq
-use Rattle.evaluator.proofs.runs.+ite+par+rounds+seq+term.Lts-seq as seq-lts
-use Rattle.evaluator.proofs.runs.par.Reads as par
-use Rattle.evaluator.proofs.runs.+ite+par+rounds+seq+term.Lts-par as par-lts
-use Rattle.evaluator.proofs.runs.ite.Reads as ite
-use Rattle.evaluator.proofs.runs.+ite+par+rounds+seq+term.Lts-ite as ite-lts
-use Rattle.evaluator.proofs.runs.rounds.Reads as rounds
-use Rattle.evaluator.proofs.runs.+ite+par+rounds+seq+term.Lts-rounds as rounds-lts
-use Rattle.evaluator.proofs.runs.term.Reads as term
-use Rattle.evaluator.proofs.runs.+ite+par+rounds+seq+term.Lts-term as term-lts
-use Rattle.evaluator.proofs.runs.+ite+par+rounds+seq+term.{statement}
-use Rattle.evaluator.proofs.runs.+ite+par+rounds+seq+term.Tie.{close}
+use Rattle.runs.proofs.+ite+par+rounds+seq+term.Proof.Seq as seq-needs
+use Rattle.runs.proofs.+ite+par+rounds+seq+term.Proof.Par as par-needs
+use Rattle.runs.proofs.+ite+par+rounds+seq+term.Proof.Ite as ite-needs
+use Rattle.runs.proofs.+ite+par+rounds+seq+term.Proof.Rounds as rounds-needs
+use Rattle.runs.proofs.+ite+par+rounds+seq+term.Proof.Term as term-needs
+use Rattle.runs.proofs.+ite+par+rounds+seq+term.Proof.Measures.{μ-seq, μ-par, μ-ite, μ-rounds, μ-term}
+use Rattle.runs.proofs.+ite+par+rounds+seq+term.Proof.Measures.{seq-at, par-at, ite-at, rounds-at, term-at}
+use Rattle.runs.proofs.+ite+par+rounds+seq+term.Proof.Measures.{seq-calls, par-calls, ite-calls, rounds-calls, term-calls}
+use Rattle.runs.proofs.seq.Reads as seq
+use Rattle.runs.proofs.+ite+par+rounds+seq+term.Lts-seq as seq-lts
+use Rattle.runs.proofs.par.Reads as par
+use Rattle.runs.proofs.+ite+par+rounds+seq+term.Lts-par as par-lts
+use Rattle.runs.proofs.ite.Reads as ite
+use Rattle.runs.proofs.+ite+par+rounds+seq+term.Lts-ite as ite-lts
+use Rattle.runs.proofs.rounds.Reads as rounds
+use Rattle.runs.proofs.+ite+par+rounds+seq+term.Lts-rounds as rounds-lts
+use Rattle.runs.proofs.term.Reads as term
+use Rattle.runs.proofs.+ite+par+rounds+seq+term.Lts-term as term-lts
+use Rattle.runs.proofs.+ite+par+rounds+seq+term.{statement}
+use Rattle.runs.proofs.+ite+par+rounds+seq+term.Tie.{close}
 pub mod Measures
 pub mod Seq
 pub mod Par

@@ -5,14 +5,14 @@ use mathlib.Core.Path.{refl, _∙_}
 use native.Mathlib.Omega.{arith}
 use borrow.Author.Needs.{needs}
 use Rattle.meaning.specs.Terms.{tree}
-use Rattle.evaluator.proofs.Turns.{leaves-as, Gave, gave, Going}
-use Rattle.evaluator.proofs.Turns.{rec-unfinished, rec-from-last}
-use Rattle.evaluator.proofs.Turns.{rec-unfinished-body, rec-unfinished-fed, rec-from-more}
-use Rattle.evaluator.proofs.Parts.{RecParts, long}
-use Rattle.evaluator.proofs.Parts.{rec-parts}
-use Rattle.evaluator.proofs.runs.+ite+par+rounds+seq+term.Proof.Measures.{rounds-at, rounds-calls}
-use Rattle.evaluator.proofs.runs.rounds.Reads as rounds
-use Rattle.evaluator.proofs.runs.+ite+par+rounds+seq+term.Lts-rounds as rounds-lts
+use Rattle.runs.proofs.Turns.{leaves-as, Gave, gave, Going}
+use Rattle.runs.proofs.Turns.{rec-unfinished, rec-from-last}
+use Rattle.runs.proofs.Turns.{rec-unfinished-body, rec-unfinished-fed, rec-from-more}
+use Rattle.runs.proofs.Parts.{RecParts, long}
+use Rattle.runs.proofs.Parts.{rec-parts}
+use Rattle.runs.proofs.+ite+par+rounds+seq+term.Proof.Measures.{rounds-at, rounds-calls}
+use Rattle.runs.proofs.rounds.Reads as rounds
+use Rattle.runs.proofs.+ite+par+rounds+seq+term.Lts-rounds as rounds-lts
 
 abbrev pub Inv-loop : rounds-lts.InvT-loop
 Inv-loop width table given k words₀ start limit e f g at₀ words at = Going width (tree table k) start limit words₀ at words

@@ -2,11 +2,16 @@
 // before it, its outputs after it. `term` goes by the kind, and each combinator calls it back on
 // its operands, whose numbers are lower. Cycles are counted from the start of the whole run up to
 // the budget, the limit, so no sum of them can wrap. Document 01: "Cycles".
-use crate::leaves;
+//
+//     term     by the kind: the four below, or a leaf
+//     seq, par, ite, rounds   the combinators; `rounds` is the round evaluator of Rec
+//     leaves   terms of kind 9 and above, and the words and cycles of the two sides of Par
+mod leaves;
+
 use meaning::End;
 ghost use mathlib.Core.Path.{_≡_};
 ghost use Rattle.meaning.specs.Terms.{kindOf};
-ghost use Rattle.evaluator.specs.Runs.{Startable, termFrom, Leaves};
+ghost use Rattle.runs.specs.Runs.{Startable, termFrom, Leaves};
 
 // The run of term k, by its kind.
 pub fn term(

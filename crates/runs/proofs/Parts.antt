@@ -14,8 +14,8 @@ use Rattle.meaning.proofs.Accepted.{Accepted, accepted}
 use Rattle.meaning.proofs.Rows.{Rows, SeqRow, ParRow, IteRow, RecRow, LeafRow, rows}
 use Rattle.meaning.proofs.Typed.{well, outs-few}
 use Rattle.meaning.proofs.Lengths.{evaluate-length}
-use Rattle.evaluator.specs.Runs.{Ready, runFrom, termFrom}
-use Rattle.evaluator.proofs.Turns.{Gave}
+use Rattle.runs.specs.Runs.{Ready, runFrom, termFrom}
+use Rattle.runs.proofs.Turns.{Gave}
 
 -- Two operands, and three.
 pub record SeqParts (t : List ℕ) (k f g : ℕ) : Type 0 where

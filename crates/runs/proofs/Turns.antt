@@ -18,8 +18,8 @@ use Rattle.meaning.proofs.Alike.{padded-evaluates}
 use Rattle.meaning.proofs.Steps.{later-later, seq-stops, seq-goes, par-stops-first, par-stops-second, par-ends, ite-stops, ite-then}
 use Rattle.meaning.proofs.Steps.{ite-else}
 use Rattle.meaning.proofs.Steps.{rec-stops, rec-last, rec-stops-body, rec-stops-fed, rec-goes}
-use Rattle.evaluator.specs.Runs.{runFrom, endOf, Leaves, sideBySide}
-use Rattle.evaluator.proofs.Joined.{beside-padded}
+use Rattle.runs.specs.Runs.{runFrom, endOf, Leaves, sideBySide}
+use Rattle.runs.proofs.Joined.{beside-padded}
 
 -- What an unfinished result leaves, and what an ended one does.
 pub leaves-stopped : (s : ℕ) (r : Result) (array : Words) → r ≡ unfinished → Leaves (later s r) Unfinished array

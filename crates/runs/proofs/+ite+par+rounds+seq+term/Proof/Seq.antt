@@ -3,11 +3,11 @@ use Prim.Native.Nat.{ℕ}
 use native.Mathlib.Omega.{arith}
 use borrow.Author.Needs.{needs}
 use Rattle.meaning.specs.Terms.{tree}
-use Rattle.evaluator.proofs.Turns.{leaves-as, Gave, gave, seq-unfinished, seq-from}
-use Rattle.evaluator.proofs.Parts.{SeqParts, long, seq-parts}
-use Rattle.evaluator.proofs.runs.+ite+par+rounds+seq+term.Proof.Measures.{seq-at, seq-calls}
-use Rattle.evaluator.proofs.runs.seq.Reads as seq
-use Rattle.evaluator.proofs.runs.+ite+par+rounds+seq+term.Lts-seq as seq-lts
+use Rattle.runs.proofs.Turns.{leaves-as, Gave, gave, seq-unfinished, seq-from}
+use Rattle.runs.proofs.Parts.{SeqParts, long, seq-parts}
+use Rattle.runs.proofs.+ite+par+rounds+seq+term.Proof.Measures.{seq-at, seq-calls}
+use Rattle.runs.proofs.seq.Reads as seq
+use Rattle.runs.proofs.+ite+par+rounds+seq+term.Lts-seq as seq-lts
 
 module _ (t : ℕ) where
   -- Seq: its parts, and what f gave.

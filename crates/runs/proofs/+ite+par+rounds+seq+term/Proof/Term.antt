@@ -2,12 +2,12 @@
 use Prim.Native.Nat.{ℕ}
 use mathlib.Core.Path.{sym, _∙_}
 use native.Mathlib.Omega.{arith}
-use Rattle.evaluator.proofs.Turns.{leaves-as}
-use Rattle.evaluator.proofs.Parts.{wide, long}
-use Rattle.evaluator.proofs.Parts.{leaf-small, leaf-from}
-use Rattle.evaluator.proofs.runs.+ite+par+rounds+seq+term.Proof.Measures.{term-at, term-calls}
-use Rattle.evaluator.proofs.runs.term.Reads as term
-use Rattle.evaluator.proofs.runs.+ite+par+rounds+seq+term.Lts-term as term-lts
+use Rattle.runs.proofs.Turns.{leaves-as}
+use Rattle.runs.proofs.Parts.{wide, long}
+use Rattle.runs.proofs.Parts.{leaf-small, leaf-from}
+use Rattle.runs.proofs.+ite+par+rounds+seq+term.Proof.Measures.{term-at, term-calls}
+use Rattle.runs.proofs.term.Reads as term
+use Rattle.runs.proofs.+ite+par+rounds+seq+term.Lts-term as term-lts
 
 module _ (t : ℕ) where
   pub number-requires : term-lts.Need-number-requires (term-calls t) (term-at t) term.Post
