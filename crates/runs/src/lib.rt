@@ -26,13 +26,20 @@ pub fn term(
     requires { ⌜ Startable width (now table) (now given) k start limit ⌝ }
     ensures { λ r. ⌜ Leaves (termFrom width (now (table .entry)) k start limit (now (words .entry))) r (now (words .exit)) ⌝ }
 {
-    let kind = terms::number(table, k, 0);
+    let kind = tables::number(table, k, 0);
     match kind {
         1 => seq(width, table, given, k, words, start, limit),
         2 => par(width, table, given, k, words, start, limit),
         3 => ite(width, table, given, k, words, start, limit),
         4 => rounds(width, table, given, k, words, start, limit),
-        _ => leaves::leaf(width, kind, terms::number(table, k, 2), words, start, limit),
+        _ => leaves::leaf(
+            width,
+            kind,
+            tables::number(table, k, 2),
+            words,
+            start,
+            limit,
+        ),
     }
 }
 
@@ -49,8 +56,8 @@ fn seq(
     requires { ⌜ Startable width (now table) (now given) k start limit × (kindOf (now table) k ≡ 1) ⌝ }
     ensures { λ r. ⌜ Leaves (termFrom width (now (table .entry)) k start limit (now (words .entry))) r (now (words .exit)) ⌝ }
 {
-    let f = terms::operand(table, k, 1);
-    let g = terms::operand(table, k, 2);
+    let f = tables::operand(table, k, 1);
+    let g = tables::operand(table, k, 2);
     let first = term(width, table, given, f, words, start, limit);
     let End::Ended(at) = first else {
         return End::Unfinished;
@@ -71,8 +78,8 @@ fn par(
     requires { ⌜ Startable width (now table) (now given) k start limit × (kindOf (now table) k ≡ 2) ⌝ }
     ensures { λ r. ⌜ Leaves (termFrom width (now (table .entry)) k start limit (now (words .entry))) r (now (words .exit)) ⌝ }
 {
-    let f = terms::operand(table, k, 1);
-    let g = terms::operand(table, k, 2);
+    let f = tables::operand(table, k, 1);
+    let g = tables::operand(table, k, 2);
     let mut others = *words;
     let first = term(width, table, given, f, words, start, limit);
     let End::Ended(c) = first else {
@@ -100,9 +107,9 @@ fn ite(
     requires { ⌜ Startable width (now table) (now given) k start limit × (kindOf (now table) k ≡ 3) ⌝ }
     ensures { λ r. ⌜ Leaves (termFrom width (now (table .entry)) k start limit (now (words .entry))) r (now (words .exit)) ⌝ }
 {
-    let e = terms::operand(table, k, 1);
-    let f = terms::operand(table, k, 2);
-    let g = terms::operand(table, k, 3);
+    let e = tables::operand(table, k, 1);
+    let f = tables::operand(table, k, 2);
+    let g = tables::operand(table, k, 3);
     let mut choice = *words;
     let chosen = term(width, table, given, e, &mut choice, start, limit);
     let End::Ended(at) = chosen else {
@@ -128,9 +135,9 @@ fn rounds(
     requires { ⌜ Startable width (now table) (now given) k start limit × (kindOf (now table) k ≡ 4) ⌝ }
     ensures { λ r. ⌜ Leaves (termFrom width (now (table .entry)) k start limit (now (words .entry))) r (now (words .exit)) ⌝ }
 {
-    let e = terms::operand(table, k, 1);
-    let f = terms::operand(table, k, 2);
-    let g = terms::operand(table, k, 3);
+    let e = tables::operand(table, k, 1);
+    let f = tables::operand(table, k, 2);
+    let g = tables::operand(table, k, 3);
     let mut at = start;
     loop {
         let mut test = *words;

@@ -13,8 +13,8 @@ use Rattle.meaning.specs.Counts.{size, capped}
 use Rattle.meaning.specs.Checks.{verdictOf}
 use Rattle.meaning.specs.Answers.{knownFacts, factsOf}
 use Rattle.meaning.proofs.Accepted.{Accepted, accepted}
-use Rattle.terms.specs.Scans.{CanSize}
-use Rattle.terms.proofs.Columns.{at-column}
+use Rattle.terms.specs.Checked.{CanSize}
+use Rattle.tables.proofs.Columns.{at-column}
 
 module _ (w : ℕ) (t : List ℕ) (accepts : verdictOf w t ≡ verdict.Accepted) (f : Facts) (checked : f ≡ factsOf w t) where
   facts-known : f ≡ knownFacts t

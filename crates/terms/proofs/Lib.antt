@@ -1,8 +1,4 @@
--- What is shown of the checks: laws of the loop over terms, of the sizes, and that the two sizings agree.
-pub mod Operands
-pub mod Combined
-pub mod Columns
-pub mod Scan
+-- What is shown of the checks and the sizes: the facts of a table, a size over its operands, and that the two sizings agree.
 pub mod Whole
 pub mod Sizes
 pub mod Agreement

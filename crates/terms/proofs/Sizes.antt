@@ -11,9 +11,9 @@ use Rattle.meaning.specs.Counts.{ins, outs, size}
 use Rattle.meaning.specs.Checks.{operandsOf, operandTree}
 use Rattle.meaning.proofs.Decoded.{tree-seq, tree-par, tree-ite, tree-rec, tree-leaf}
 use Rattle.meaning.proofs.Accepted.{Fits, seq-fits, par-fits, ite-fits, rec-fits, const-fits, field-fits, op-fits, Accepted, accepted}
-use Rattle.terms.specs.Scans.{CanSize}
-use Rattle.terms.proofs.Operands.{joining, none-joined}
-use Rattle.terms.proofs.Columns.{at-column}
+use Rattle.terms.specs.Checked.{CanSize}
+use Rattle.kinds.proofs.Joining.{joining, none-joined}
+use Rattle.tables.proofs.Columns.{at-column}
 
 -- The operands of a combinator are below it, and together smaller.
 module _ {w : ℕ} {t : List ℕ} {k : ℕ} where

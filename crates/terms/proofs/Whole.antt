@@ -18,8 +18,9 @@ use Rattle.meaning.specs.Counts.{ins, size, capped, wholeSize}
 use Rattle.meaning.specs.Checks.{widthFits, lengthFits, refusalAt, sizeVerdict, firstRefusal, verdictOf}
 use Rattle.meaning.specs.Answers.{onVerdict, factsOf}
 use Rattle.meaning.proofs.Tests.{both}
-use Rattle.terms.specs.Scans.{framedOf, bareFacts, Scanned}
-use Rattle.terms.proofs.Columns.{at-column}
+use Rattle.tables.specs.Scans.{Scanned}
+use Rattle.terms.specs.Checked.{framedOf, bareFacts}
+use Rattle.tables.proofs.Columns.{at-column}
 
 either-way : (b : Bool) (x y z v : Verdict) → x ≡ onVerdict y v (λ r p. verdict.Refused r p) →
     z ≡ onVerdict z v (λ r p. verdict.Refused r p) →

@@ -1,4 +1,2 @@
--- What the parts of the check of a table answer, in reading order. Definitions only.
-pub mod Early
-pub mod Shapes
-pub mod Scans
+-- What the parts of the check of a table answer, and what its sizes ask. Definitions only.
+pub mod Checked

@@ -1,17 +1,12 @@
-// A table's numbers; its checks 1 to 9, with what they find of each term; and a size by recursion.
+// The checks 1 to 9 of a table, with what they find of each term; and a size by recursion.
 // A refused table has its number and place, and zeros for every term.
 // Document 01: "Term tables", "Refusal numbers".
 //
-//     check    `framed`, then `scanned`, then the size of the whole circuit
+//     check    `framed`, then `tables::scanned`, then the size of the whole circuit
 //     framed   1 and 2: the width and the length
-//     scanned  3 to 8 term by term, lowest first: `kinds::early`, the operands, `shapes::shape_of`
 //     size     the cells of one term of an accepted table
-pub mod kinds;
-pub mod shapes;
-
 use meaning::Facts;
 use meaning::Verdict;
-use shapes::Shape;
 ghost use mathlib.Core.Path.{_≡_};
 ghost use Prim.Native.Nat.{_*_, _+_, _<_, _≤_, _%_};
 ghost use lib.ListN.{length};
@@ -20,21 +15,14 @@ ghost use Rattle.meaning.specs.Choices.{and};
 ghost use Rattle.meaning.specs.Terms.{numberOf, tree};
 ghost use Rattle.meaning.specs.Counts.{«size»};
 ghost use Rattle.meaning.specs.Answers.{factsOf};
-ghost use Rattle.terms.specs.Scans.{framedOf, Scanned, bareFacts, CanSize};
+ghost use Rattle.terms.specs.Checked.{framedOf, bareFacts, CanSize};
 
 // Number j of term k.
 pub fn number(table: &[u32], k: usize, j: usize) -> u32
     requires { ⌜ (j < 4) × (k * 4 + 4 ≤ length (now table)) ⌝ }
     ensures { λ r. ⌜ r ≡ numberOf (now (table .entry)) k j ⌝ }
 {
-    table[k * 4 + j]
-}
-
-// A number as one that can index.
-fn wide(x: u32) -> usize
-    ensures { λ r. ⌜ r ≡ x ⌝ }
-{
-    x as usize
+    tables::number(table, k, j)
 }
 
 // The same number, as the term that it names.
@@ -42,7 +30,7 @@ pub fn operand(table: &[u32], k: usize, j: usize) -> usize
     requires { ⌜ (j < 4) × (k * 4 + 4 ≤ length (now table)) ⌝ }
     ensures { λ r. ⌜ r ≡ numberOf (now (table .entry)) k j ⌝ }
 {
-    wide(number(table, k, j))
+    tables::operand(table, k, j)
 }
 
 // 2: a length is that of 1 to 256 terms.
@@ -77,53 +65,6 @@ fn bare(verdict: Verdict) -> Facts
     }
 }
 
-// 3 to 8: the first refusal, or the facts of every term.
-fn scanned(width: u32, table: &[u32]) -> Facts
-    requires { ⌜ (width ≤ 32) × (length (now table) ≤ 1024) ⌝ }
-    ensures { λ r. ⌜ Scanned width (now (table .entry)) r ⌝ }
-{
-    let n = table.len() / 4;
-    let mut ins = [0u32; 256];
-    let mut outs = [0u32; 256];
-    let mut sizes = [0u32; 256];
-    let mut k: usize = 0;
-    let verdict = 'terms: loop {
-        if k == n {
-            break Verdict::Accepted;
-        }
-        let early = kinds::early(width, table, k);
-        if early != 0 {
-            break Verdict::Refused(early, k as u32);
-        }
-        let uses = kinds::operands(number(table, k, 0));
-        let mut j: usize = 1;
-        while j <= uses {
-            if k <= operand(table, k, j) {
-                break 'terms Verdict::Refused(6, k as u32);
-            }
-            j = j + 1;
-        }
-        let shape = shapes::shape_of(table, k, &ins, &outs, &sizes);
-        match shape {
-            Shape::Gives(known) => {
-                ins[k] = known.ins;
-                outs[k] = known.outs;
-                sizes[k] = known.cells;
-            }
-            Shape::Bad(refusal) => {
-                break Verdict::Refused(refusal, k as u32);
-            }
-        }
-        k = k + 1;
-    };
-    Facts {
-        verdict: verdict,
-        ins: ins,
-        outs: outs,
-        sizes: sizes,
-    }
-}
-
 // 1 to 9, and what is known of each term.
 pub fn check(width: u32, table: &[u32]) -> Facts
     ensures { λ r. ⌜ r ≡ factsOf width (now (table .entry)) ⌝ }
@@ -132,7 +73,7 @@ pub fn check(width: u32, table: &[u32]) -> Facts
     let Verdict::Accepted = frame else {
         return bare(frame);
     };
-    let facts = scanned(width, table);
+    let facts = tables::scanned(width, table);
     let verdict = facts.verdict;
     let Verdict::Accepted = verdict else {
         return bare(verdict);

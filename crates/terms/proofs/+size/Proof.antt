@@ -11,14 +11,14 @@ use Rattle.meaning.specs.Choices.{at}
 use Rattle.meaning.specs.Terms.{kindOf, numberOf, tree}
 use Rattle.meaning.specs.Counts.{size}
 use Rattle.meaning.specs.Checks.{operandsOf, operandTree}
-use Rattle.terms.specs.Scans.{CanSize}
-use Rattle.terms.proofs.Operands.{rec-last}
+use Rattle.terms.specs.Checked.{CanSize}
+use Rattle.kinds.proofs.Joining.{rec-last}
 use Rattle.terms.proofs.Sizes.{place, size-leaf, lower, indices, two-small, first-part, second-part, third-part, third-lower}
 use Rattle.terms.proofs.Sizes.{seq-size, par-size, ite-size, rec-size}
 use Rattle.terms.proofs.size.Reads as size-reads
 use Rattle.terms.proofs.size.Kinds as size-kinds
 use Rattle.terms.proofs.+size.Lts-size as size-lts
-use Rattle.terms.proofs.kinds.operands.Reads as operands-reads
+use Rattle.kinds.proofs.operands.Reads as operands-reads
 use Rattle.terms.proofs.number.Reads as number-reads
 use Rattle.terms.proofs.operand.Reads as operand-reads
 use Rattle.terms.proofs.+size.{statement}

@@ -1,7 +1,7 @@
 -- Proof: `terms::framed` meets its contract, test by test. Assumes nothing.
 use mathlib.Core.Path.{sym, _∙_}
 use borrow.Author.Tests.{not-true, not-false}
-use Rattle.terms.specs.Scans.{framedOf}
+use Rattle.terms.specs.Checked.{framedOf}
 use borrow.Author.Needs.{needs}
 use Rattle.terms.proofs.framed.Statement.{statement}
 use Rattle.terms.proofs.framed.Tie as tie

@@ -21,8 +21,8 @@ use Rattle.runs.proofs.+ite+par+rounds+seq+term.Lts-term as term-lts
 use Rattle.runs.proofs.leaves.join.Reads as join-reads
 use Rattle.runs.proofs.leaves.later.Reads as later-reads
 use Rattle.runs.proofs.leaves.leaf.Reads as leaf-reads
-use Rattle.terms.proofs.number.Reads as number-reads
-use Rattle.terms.proofs.operand.Reads as operand-reads
+use Rattle.tables.proofs.number.Reads as number-reads
+use Rattle.tables.proofs.operand.Reads as operand-reads
 
 abbrev pub μ-seq : Measures 3 seq-kinds.ps ℕ
 μ-seq κs a = a .1 .1 .1 .0 + a .1 .1 .1 .0

@@ -1,0 +1,2 @@
+-- What a combinator makes of its operands. Definitions only.
+pub mod Shapes
