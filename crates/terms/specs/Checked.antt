@@ -1,8 +1,9 @@
 -- Checked: what the frame of a table answers, and what the recursive size asks. Definitions only.
 -- Document 01: "Refusal numbers". Assumes nothing.
-use Prim.Native.Nat.{ℕ, _≤_, _<_}
+use Prim.Native.Nat.{ℕ, _+_, _*_, _≤_, _<_}
 use mathlib.Core.Path.{_≡_}
 use mathlib.Core.List.{List, []}
+use lib.Dec.{eqb}
 use Rattle.meaning.specs.declared.Verdict.{Verdict}
 use Rattle.meaning.specs.declared.Verdict.the-variants as verdict
 use Rattle.meaning.specs.declared.Facts.{Facts}
@@ -19,6 +20,10 @@ framedOf w t = pick (widthFits w) (pick (lengthFits t) verdict.Accepted (verdict
 -- A verdict with zeros for every term.
 abbrev pub bareFacts : Verdict → Facts
 bareFacts v = record { verdict = v; ins = padded 256 []; outs = padded 256 []; sizes = padded 256 [] }
+
+-- What a combinator adds to the cells of its operands, of which the first takes i words and the second gives o.
+unfoldable pub ownOf : ℕ → ℕ → ℕ → ℕ
+ownOf kind i o = pick (eqb kind 1) 4 (pick (eqb kind 2) 1 (pick (eqb kind 3) (2 * i + 9 + o) (4 * i + 16)))
 
 -- A term of an accepted table whose size is within the limit, with the arrays of its word counts.
 pub record CanSize (t i o : List ℕ) (k : ℕ) : Type 0 where

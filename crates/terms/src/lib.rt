@@ -15,7 +15,7 @@ ghost use Rattle.meaning.specs.Choices.{and};
 ghost use Rattle.meaning.specs.Terms.{numberOf, tree};
 ghost use Rattle.meaning.specs.Counts.{«size»};
 ghost use Rattle.meaning.specs.Answers.{factsOf};
-ghost use Rattle.terms.specs.Checked.{framedOf, bareFacts, CanSize};
+ghost use Rattle.terms.specs.Checked.{framedOf, bareFacts, ownOf, CanSize};
 
 // Number j of term k.
 pub fn number(table: &[u32], k: usize, j: usize) -> u32
@@ -85,22 +85,38 @@ pub fn check(width: u32, table: &[u32]) -> Facts
     facts
 }
 
+// The cells that a combinator adds to those of its operands, of which the first takes `taken`
+// words and the second gives `given`.
+fn own(kind: u32, taken: u32, given: u32) -> u32
+    requires { ⌜ (taken ≤ 16) × (given ≤ 16) ⌝ }
+    ensures { λ r. ⌜ r ≡ ownOf kind taken given ⌝ }
+{
+    match kind {
+        1 => 4,
+        2 => 1,
+        3 => 2 * taken + 9 + given,
+        _ => 4 * taken + 16,
+    }
+}
+
 // The cells of term k's own block, operand by operand, in a table that passed every check.
 pub fn size(table: &[u32], ins: &[u32; 256], outs: &[u32; 256], k: usize) -> u32
     requires { ⌜ CanSize (now table) (now ins) (now outs) k ⌝ }
     ensures { λ r. ⌜ r ≡ «size» (tree (now (table .entry)) k) ⌝ }
 {
-    let kind = number(table, k, 0);
-    if kinds::operands(kind) == 0 {
+    let kind = tables::number(table, k, 0);
+    let uses = kinds::operands(kind);
+    if uses == 0 {
         return 4;
     }
-    let a = operand(table, k, 1);
-    let b = operand(table, k, 2);
-    let two = size(table, ins, outs, a) + size(table, ins, outs, b);
-    match kind {
-        1 => two + 4,
-        2 => two + 1,
-        3 => two + size(table, ins, outs, operand(table, k, 3)) + 2 * ins[a] + 9 + outs[b],
-        _ => two + size(table, ins, outs, operand(table, k, 3)) + 4 * ins[a] + 16,
+    let first = tables::operand(table, k, 1);
+    let second = tables::operand(table, k, 2);
+    let mut cells = own(kind, ins[first], outs[second]);
+    let mut j: usize = 0;
+    while j < uses {
+        let next = tables::operand(table, k, j + 1);
+        cells = cells + size(table, ins, outs, next);
+        j = j + 1;
     }
+    cells
 }

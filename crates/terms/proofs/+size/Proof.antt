@@ -1,26 +1,26 @@
--- Proof: `terms::size` meets its contract: the sum of a kind is its definition over the sizes of the operands, which are lower terms.
--- Measure: the term's number. Mathematics in `proofs.Sizes`. Assumes nothing.
-use Prim.Native.Nat.{ℕ, _+_, _*_, _≤_, _<_}
+-- Proof: `terms::size` meets its contract. Invariant: the cells so far are what the combinator adds and the sizes of the operands
+-- passed. Measures: the term's number, and the operands left. Mathematics in `proofs.Sizes`. Assumes nothing.
+use Prim.Native.Nat.{ℕ, suc, _+_, _-_, _≤_, _<_}
 use mathlib.Core.Path.{_≡_, sym, ap, _∙_}
 use mathlib.Core.List.{List}
+use native.Mathlib.Numerals.{add-one}
 use native.Mathlib.Omega.{arith}
 use borrow.Author.Needs.{needs}
 use borrow.Fn.Kinds.{In}
 use borrow.Fn.PlainCycle.{Measures, is, falls, and}
-use Rattle.meaning.specs.Choices.{at}
 use Rattle.meaning.specs.Terms.{kindOf, numberOf, tree}
 use Rattle.meaning.specs.Counts.{size}
-use Rattle.meaning.specs.Checks.{operandsOf, operandTree}
+use Rattle.meaning.specs.Checks.{operandsOf}
+use Rattle.kinds.proofs.Joining.{few-operands}
+use Rattle.kinds.proofs.operands.Reads as operands-reads
+use Rattle.tables.proofs.number.Reads as number-reads
+use Rattle.tables.proofs.operand.Reads as operand-reads
 use Rattle.terms.specs.Checked.{CanSize}
-use Rattle.kinds.proofs.Joining.{rec-last}
-use Rattle.terms.proofs.Sizes.{place, size-leaf, lower, indices, two-small, first-part, second-part, third-part, third-lower}
-use Rattle.terms.proofs.Sizes.{seq-size, par-size, ite-size, rec-size}
+use Rattle.terms.proofs.Sizes.{summed, adds, place, size-leaf, two, sized, lower, index, small, part, few, added}
+use Rattle.terms.proofs.own.Reads as own-reads
 use Rattle.terms.proofs.size.Reads as size-reads
 use Rattle.terms.proofs.size.Kinds as size-kinds
 use Rattle.terms.proofs.+size.Lts-size as size-lts
-use Rattle.kinds.proofs.operands.Reads as operands-reads
-use Rattle.terms.proofs.number.Reads as number-reads
-use Rattle.terms.proofs.operand.Reads as operand-reads
 use Rattle.terms.proofs.+size.{statement}
 use Rattle.terms.proofs.+size.Tie.{close}
 
@@ -41,291 +41,200 @@ size-calls m = (
   operands-reads.Learnt,
   operand-reads.Asked,
   operand-reads.Learnt,
+  own-reads.Asked,
+  own-reads.Learnt,
   size-below m,
   size-reads.Post,
 )
 
--- A term that has operands, with its table and arrays.
-abbrev Joins : ℕ → Type 0
-Joins m = size-lts.Else1 (size-calls m) (size-at m) size-reads.Post
+abbrev Inv-loop : size-lts.InvT-loop
+Inv-loop table ins outs k kind uses first second cells₀ j₀ cells j = (j ≤ uses) × (cells ≡ summed table k (adds table k) j)
 
-abbrev table : (m : ℕ) → Joins m → List ℕ
-table m e = e .before .before .before .before .args .table .now
+abbrev μ-loop : size-lts.MeasureT-loop
+μ-loop table ins outs k kind uses first second cells₀ j₀ cells j = uses - j
 
-abbrev term : (m : ℕ) → Joins m → ℕ
-term m e = e .before .before .before .before .args .k
+module _ (m : ℕ) where
+  -- A term that has operands, with its table and arrays.
+  abbrev Joins : Type 0
+  Joins = size-lts.Else1 (size-calls m) (size-at m) size-reads.Post Inv-loop μ-loop
 
-abbrev ins : (m : ℕ) → Joins m → List ℕ
-ins m e = e .before .before .before .before .args .ins .now
+  abbrev table : Joins → List ℕ
+  table e = e .before .before .before .before .args .table .now
 
-abbrev outs : (m : ℕ) → Joins m → List ℕ
-outs m e = e .before .before .before .before .args .outs .now
+  abbrev term : Joins → ℕ
+  term e = e .before .before .before .before .args .k
 
-abbrev kind : (m : ℕ) → Joins m → ℕ
-kind m e = kindOf (table m e) (term m e)
+  can : (e : Joins) → let a = e .before .before .before .before .args in CanSize (table e) (a .ins .now) (a .outs .now) (term e)
+  can e = e .before .before .before .before .pre .1
 
-abbrev part : (m : ℕ) → Joins m → ℕ → ℕ
-part m e j = size (operandTree (table m e) (term m e) j)
+  uses-are : (e : Joins) → e .before .operands .result ≡ operandsOf (kindOf (table e) (term e))
+  uses-are e = e .before .operands .ensures ∙ ap operandsOf (e .before .before .number .ensures)
 
-can : (m : ℕ) (e : Joins m) → CanSize (table m e) (ins m e) (outs m e) (term m e)
-can m e = e .before .before .before .before .pre .1
+  some : (e : Joins) → operandsOf (kindOf (table e) (term e)) ≡ 0 → ⊥
+  some e h = e .if1 .left (uses-are e ∙ h)
 
-some : (m : ℕ) (e : Joins m) → operandsOf (kind m e) ≡ 0 → ⊥
-some m e h = e .if1 .left (e .before .operands .ensures ∙ ap operandsOf (e .before .before .number .ensures) ∙ h)
+  -- Its first two operands are named, what it adds is known, and an operand is left.
+  abbrev Two : Type 0
+  Two = size-lts.After-operand2 (size-calls m) (size-at m) size-reads.Post Inv-loop μ-loop
 
--- What a call on operand j asks.
-called : (m : ℕ) (e : Joins m) (n j : ℕ) → n ≡ numberOf (table m e) (term m e) j → numberOf (table m e) (term m e) j < term m e →
-    CanSize (table m e) (ins m e) (outs m e) (numberOf (table m e) (term m e) j) → (n < m) × CanSize (table m e) (ins m e) (outs m e) n
-called m e n j q l h = (omega (arith, e .before .before .before .before .pre .0), rw q h)
+  abbrev joins : Two → Joins
+  joins d = d .before .before
 
--- Its first two operands are sized.
-abbrev Two : ℕ → Type 0
-Two m = size-lts.After-size2 (size-calls m) (size-at m) size-reads.Post
+  first-below : (d : Two) → d .before .operand .result < 256
+  first-below d =
+      let e = joins d in
+      omega (arith, d .before .operand .ensures, index (can e) (some e) 0 (omega (arith, two (can e) (some e))))
 
-abbrev joins : (m : ℕ) → Two m → Joins m
-joins m d = d .before .before .before .before
+  second-below : (d : Two) → d .operand2 .result < 256
+  second-below d =
+      let e = joins d in
+      omega (arith, d .operand2 .ensures, index (can e) (some e) 1 (omega (arith, two (can e) (some e))))
 
-module _ (m : ℕ) (d : Two m) where
-  first : d .before .size .result ≡ part m (joins m d) 1
-  first = d .before .size .ensures ∙ ap (λ (n : ℕ). size (tree (table m (joins m d)) n)) (d .before .before .before .operand .ensures)
+  abbrev Left : Type 0
+  Left = size-lts.In-loop (size-calls m) (size-at m) size-reads.Post Inv-loop μ-loop
 
-  second : d .size2 .result ≡ part m (joins m d) 2
-  second = d .size2 .ensures ∙ ap (λ (n : ℕ). size (tree (table m (joins m d)) n)) (d .before .before .operand2 .ensures)
+  abbrev joined : Left → Joins
+  joined l = joins (l .before .before .before .before .before)
 
-  kind-is : d .before .before .before .before .before .before .number .result ≡ kind m (joins m d)
-  kind-is = d .before .before .before .before .before .before .number .ensures
+  left : (l : Left) → l .before .loop .j < operandsOf (kindOf (table (joined l)) (term (joined l)))
+  left l = omega (arith, l .loop-test .taken, uses-are (joined l))
 
--- An Ite, with its third operand sized.
-abbrev Ite : ℕ → Type 0
-Ite m = size-lts.After-size3 (size-calls m) (size-at m) size-reads.Post
+  -- The operand is named, and can be sized.
+  abbrev Named : Type 0
+  Named = size-lts.After-operand3 (size-calls m) (size-at m) size-reads.Post Inv-loop μ-loop
 
-abbrev two-of-ite : (m : ℕ) → Ite m → Two m
-two-of-ite m x = x .before .before .before
+  named : (c : Named) → let e = joined (c .before) in
+      c .operand3 .result ≡ numberOf (table e) (term e) (suc (c .before .before .loop .j))
+  named c =
+      let e = joined (c .before) in
+      c .operand3 .ensures ∙ ap (numberOf (table e) (term e)) (add-one (c .before .before .loop .j))
 
-is-ite : (m : ℕ) (a : size-lts.At-match-keys3 (size-calls m) (size-at m) size-reads.Post) → kind m (joins m (a .before)) ≡ 3
-is-ite m a = sym (kind-is m (a .before)) ∙ a .match .keys3
+  called : (c : Named) → let e = joined (c .before) in let a = e .before .before .before .before .args in
+      (c .operand3 .result < m) × CanSize (table e) (a .ins .now) (a .outs .now) (c .operand3 .result)
+  called c =
+      let l = c .before in
+      let e = joined l in
+      let j = l .before .loop .j in (
+        omega (arith, e .before .before .before .before .pre .0, named c, lower (can e) (some e) j (left l)),
+        rw (named c) (part (can e) (some e) j (left l)),
+      )
 
-ite-whole : (m : ℕ) (x : Ite m) → let d = two-of-ite m x in let e = joins m d in
-    size (tree (table m e) (term m e)) ≡ d .before .size .result + d .size2 .result + x .size3 .result
-    + 2 * at (ins m e) (d .before .before .before .operand .result) + 9 + at (outs m e) (d .before .before .operand2 .result)
-ite-whole m x =
-    let d = two-of-ite m x in
-    let e = joins m d in
-    let k = is-ite m (x .before .before) in
-    let third : x .size3 .result ≡ part m e 3 =
-    x .size3 .ensures ∙ ap (λ (n : ℕ). size (tree (table m e) n)) (x .before .operand3 .ensures) in
-    omega (
-      arith,
-      first m d,
-      second m d,
-      ite-size (can m e) (some m e) (omega (arith, k)) _ _ (d .before .before .before .operand .ensures)
-          (d .before .before .operand2 .ensures) k,
-    )
+  -- The cells with this operand's.
+  abbrev Sized : Type 0
+  Sized = size-lts.After-size (size-calls m) (size-at m) size-reads.Post Inv-loop μ-loop
 
--- A Rec, with its third operand sized.
-abbrev Rec : ℕ → Type 0
-Rec m = size-lts.After-size4 (size-calls m) (size-at m) size-reads.Post
+  more : (c : Sized) → let l = c .before .before in let e = joined l in
+      l .before .loop .cells + c .size .result ≡ summed (table e) (term e) (adds (table e) (term e)) (suc (l .before .loop .j))
+  unfolding summed
+  more c =
+      let l = c .before .before in
+      let e = joined l in
+      let next : c .size .result ≡ size (tree (table e) (numberOf (table e) (term e) (suc (l .before .loop .j)))) =
+      c .size .ensures ∙ ap (λ (n : ℕ). size (tree (table e) n)) (named (c .before)) in
+      rw (l .before .loop .inv .1, next)
 
-abbrev two-of-rec : (m : ℕ) → Rec m → Two m
-two-of-rec m x = x .before .before .before
+  number-requires : size-lts.Need-number-requires (size-calls m) (size-at m) size-reads.Post Inv-loop μ-loop
+  number-requires c κs = (omega arith, place (c .before .pre .1))
 
-is-rec : (m : ℕ) (a : size-lts.At-match-rest (size-calls m) (size-at m) size-reads.Post) → kind m (joins m (a .before)) ≡ 4
-is-rec m a =
-    let e = joins m (a .before) in
-    let q = kind-is m (a .before) in
-    let not = a .match .rest in
-    rec-last (kind m e) (some m e) (λ z. not .0 .0 .1 (q ∙ z)) (λ z. not .0 .1 (q ∙ z)) (λ z. not .1 (q ∙ z))
+  operands-requires : size-lts.Need-operands-requires (size-calls m) (size-at m) size-reads.Post Inv-loop μ-loop
+  operands-requires c κs = search needs
 
-rec-whole : (m : ℕ) (x : Rec m) → let d = two-of-rec m x in let e = joins m d in
-    size (tree (table m e) (term m e)) ≡ d .before .size .result + d .size2 .result + x .size4 .result
-    + 4 * at (ins m e) (d .before .before .before .operand .result) + 16
-rec-whole m x =
-    let d = two-of-rec m x in
-    let e = joins m d in
-    let k = is-rec m (x .before .before) in
-    let third : x .size4 .result ≡ part m e 3 =
-    x .size4 .ensures ∙ ap (λ (n : ℕ). size (tree (table m e) n)) (x .before .operand4 .ensures) in
-    omega (
-      arith,
-      first m d,
-      second m d,
-      rec-size (can m e) (some m e) (omega (arith, k)) _ _ (d .before .before .before .operand .ensures)
-          (d .before .before .operand2 .ensures) k,
-    )
+  returns : size-lts.Need-returns (size-calls m) (size-at m) size-reads.Post Inv-loop μ-loop
+  returns c =
+      let s = c .before .before .before .before in
+      size-leaf (s .pre .1) (sym (c .before .operands .ensures ∙ ap operandsOf (c .before .before .number .ensures)) ∙ c .if1 .taken)
 
-size-number-requires : (m : ℕ) → size-lts.Need-number-requires (size-calls m) (size-at m) size-reads.Post
-size-number-requires m c κs = (omega arith, place (c .before .pre .1))
+  operand-requires : size-lts.Need-operand-requires (size-calls m) (size-at m) size-reads.Post Inv-loop μ-loop
+  operand-requires c κs = (omega arith, place (can c))
 
-size-operands-requires : (m : ℕ) → size-lts.Need-operands-requires (size-calls m) (size-at m) size-reads.Post
-size-operands-requires m c κs = search needs
+  operand-requires-2 : size-lts.Need-operand-requires-2 (size-calls m) (size-at m) size-reads.Post Inv-loop μ-loop
+  operand-requires-2 c κs = (omega arith, place (can (c .before)))
 
-size-returns : (m : ℕ) → size-lts.Need-returns (size-calls m) (size-at m) size-reads.Post
-size-returns m c =
-    let s = c .before .before .before .before in
-    size-leaf (s .pre .1) (sym (c .before .operands .ensures ∙ ap operandsOf (c .before .before .number .ensures)) ∙ c .if1 .taken)
+  mul-own : size-lts.Need-mul-own (size-calls m) (size-at m) size-reads.Post Inv-loop μ-loop
+  mul-own c = omega (arith, first-below c)
 
-size-operand-requires : (m : ℕ) → size-lts.Need-operand-requires (size-calls m) (size-at m) size-reads.Post
-size-operand-requires m c κs = (omega arith, place (can m c))
+  element-copy-out-own : size-lts.Need-element-copy-out-own (size-calls m) (size-at m) size-reads.Post Inv-loop μ-loop
+  element-copy-out-own c = first-below c
 
-size-operand-requires-2 : (m : ℕ) → size-lts.Need-operand-requires-2 (size-calls m) (size-at m) size-reads.Post
-size-operand-requires-2 m c κs = (omega arith, place (can m (c .before)))
+  mul-own-2 : size-lts.Need-mul-own-2 (size-calls m) (size-at m) size-reads.Post Inv-loop μ-loop
+  mul-own-2 c = omega (arith, second-below (c .before))
 
-size-size-requires : (m : ℕ) → size-lts.Need-size-requires (size-calls m) (size-at m) size-reads.Post
-size-size-requires m c κs =
-    let e = c .before .before in
-    called m e _ 1 (c .before .operand .ensures) (lower (can m e) (some m e) .0) (first-part (can m e) (some m e))
+  element-copy-out-own-2 : size-lts.Need-element-copy-out-own-2 (size-calls m) (size-at m) size-reads.Post Inv-loop μ-loop
+  element-copy-out-own-2 c = second-below (c .before)
 
-size-size-requires-2 : (m : ℕ) → size-lts.Need-size-requires-2 (size-calls m) (size-at m) size-reads.Post
-size-size-requires-2 m c κs =
-    let e = c .before .before .before in
-    called m e _ 2 (c .before .operand2 .ensures) (lower (can m e) (some m e) .1) (second-part (can m e) (some m e))
+  own-requires : size-lts.Need-own-requires (size-calls m) (size-at m) size-reads.Post Inv-loop μ-loop
+  own-requires c κs =
+      let d = c .before .before in
+      let f = few (can (joins d)) (some (joins d)) in
+      (rw (d .before .operand .ensures) (f .0), rw (d .operand2 .ensures) (f .1))
 
-size-add-two : (m : ℕ) → size-lts.Need-add-two (size-calls m) (size-at m) size-reads.Post
-size-add-two m c =
-    let e = joins m c in
-    omega (arith, first m c, second m c, two-small (can m e) (some m e))
+  loop-holds : size-lts.Need-loop-holds (size-calls m) (size-at m) size-reads.Post Inv-loop μ-loop
+  loop-holds c =
+      let d = c .before .before .before in
+      let e = joins d in
+      let read = added (can e) (some e) _ _ _ (e .before .before .number .ensures) (d .before .operand .ensures) (d .operand2 .ensures) in
+      (omega arith, c .own .ensures ∙ read)
 
-size-add-result : (m : ℕ) → size-lts.Need-add-result (size-calls m) (size-at m) size-reads.Post
-size-add-result m c =
-    let d = c .before in
-    let e = joins m d in
-    omega (arith, first m d, second m d, seq-size (can m e) (some m e) (sym (kind-is m d) ∙ c .match .keys1), can m e .small)
+  add-operand : size-lts.Need-add-operand (size-calls m) (size-at m) size-reads.Post Inv-loop μ-loop
+  add-operand c = let e = joined c in omega (arith, left c, few-operands (kindOf (table e) (term e)))
 
-size-add-result-2 : (m : ℕ) → size-lts.Need-add-result-2 (size-calls m) (size-at m) size-reads.Post
-size-add-result-2 m c =
-    let d = c .before in
-    let e = joins m d in
-    omega (arith, first m d, second m d, par-size (can m e) (some m e) (sym (kind-is m d) ∙ c .match .keys2), can m e .small)
+  operand-requires-3 : size-lts.Need-operand-requires-3 (size-calls m) (size-at m) size-reads.Post Inv-loop μ-loop
+  operand-requires-3 c κs =
+      let e = joined c in (omega (arith, left c, few-operands (kindOf (table e) (term e))), place (can e))
 
-size-operand-requires-3 : (m : ℕ) → size-lts.Need-operand-requires-3 (size-calls m) (size-at m) size-reads.Post
-size-operand-requires-3 m c κs = (omega arith, place (can m (joins m (c .before))))
+  size-requires : size-lts.Need-size-requires (size-calls m) (size-at m) size-reads.Post Inv-loop μ-loop
+  size-requires c κs = called c
 
-size-size-requires-3 : (m : ℕ) → size-lts.Need-size-requires-3 (size-calls m) (size-at m) size-reads.Post
-size-size-requires-3 m c κs =
-    let e = joins m (c .before .before) in
-    let g : 3 ≤ kind m e = omega (arith, is-ite m (c .before)) in
-    called m e _ 3 (c .operand3 .ensures) (third-lower (can m e) (some m e) g) (third-part (can m e) (some m e) g)
+  add-cells : size-lts.Need-add-cells (size-calls m) (size-at m) size-reads.Post Inv-loop μ-loop
+  add-cells c =
+      let l = c .before .before in
+      let e = joined l in
+      omega (arith, more c, small (can e) (some e) (l .before .loop .j) (left l))
 
-size-add-result-3 : (m : ℕ) → size-lts.Need-add-result-3 (size-calls m) (size-at m) size-reads.Post
-size-add-result-3 m c = omega (arith, ite-whole m c, can m (joins m (two-of-ite m c)) .small)
+  add-j : size-lts.Need-add-j (size-calls m) (size-at m) size-reads.Post Inv-loop μ-loop
+  add-j c =
+      let l = c .before .before in
+      let e = joined l in
+      omega (arith, left l, few-operands (kindOf (table e) (term e)))
 
-size-mul-result : (m : ℕ) → size-lts.Need-mul-result (size-calls m) (size-at m) size-reads.Post
-size-mul-result m c =
-    let e = joins m (two-of-ite m c) in
-    omega (arith, two-of-ite m c .before .before .before .operand .ensures, indices (can m e) (some m e) .0)
+  loop-less : size-lts.Need-loop-less (size-calls m) (size-at m) size-reads.Post Inv-loop μ-loop
+  loop-less c = omega (arith, c .before .before .loop-test .taken)
 
-size-element-copy-out-result : (m : ℕ) → size-lts.Need-element-copy-out-result (size-calls m) (size-at m) size-reads.Post
-size-element-copy-out-result m c =
-    let e = joins m (two-of-ite m c) in
-    omega (arith, two-of-ite m c .before .before .before .operand .ensures, indices (can m e) (some m e) .0)
+  loop-again : size-lts.Need-loop-again (size-calls m) (size-at m) size-reads.Post Inv-loop μ-loop
+  loop-again c =
+      let l = c .before .before in
+      (omega (arith, l .loop-test .taken), rw (add-one (l .before .loop .j)) (more c))
 
-size-mul-result-2 : (m : ℕ) → size-lts.Need-mul-result-2 (size-calls m) (size-at m) size-reads.Post
-size-mul-result-2 m c = omega (arith, ite-whole m (c .before), can m (joins m (two-of-ite m (c .before))) .small)
-
-size-add-result-4 : (m : ℕ) → size-lts.Need-add-result-4 (size-calls m) (size-at m) size-reads.Post
-size-add-result-4 m c = omega (arith, ite-whole m (c .before), can m (joins m (two-of-ite m (c .before))) .small)
-
-size-add-result-5 : (m : ℕ) → size-lts.Need-add-result-5 (size-calls m) (size-at m) size-reads.Post
-size-add-result-5 m c = omega (arith, ite-whole m (c .before), can m (joins m (two-of-ite m (c .before))) .small)
-
-size-mul-result-3 : (m : ℕ) → size-lts.Need-mul-result-3 (size-calls m) (size-at m) size-reads.Post
-size-mul-result-3 m c =
-    let d = two-of-ite m (c .before) in
-    let e = joins m d in
-    omega (arith, d .before .before .operand2 .ensures, indices (can m e) (some m e) .1)
-
-size-element-copy-out-result-2 : (m : ℕ) → size-lts.Need-element-copy-out-result-2 (size-calls m) (size-at m) size-reads.Post
-size-element-copy-out-result-2 m c =
-    let d = two-of-ite m (c .before) in
-    let e = joins m d in
-    omega (arith, d .before .before .operand2 .ensures, indices (can m e) (some m e) .1)
-
-size-add-result-6 : (m : ℕ) → size-lts.Need-add-result-6 (size-calls m) (size-at m) size-reads.Post
-size-add-result-6 m c = omega (arith, ite-whole m (c .before .before), can m (joins m (two-of-ite m (c .before .before))) .small)
-
-size-operand-requires-4 : (m : ℕ) → size-lts.Need-operand-requires-4 (size-calls m) (size-at m) size-reads.Post
-size-operand-requires-4 m c κs = (omega arith, place (can m (joins m (c .before))))
-
-size-size-requires-4 : (m : ℕ) → size-lts.Need-size-requires-4 (size-calls m) (size-at m) size-reads.Post
-size-size-requires-4 m c κs =
-    let e = joins m (c .before .before) in
-    let g : 3 ≤ kind m e = omega (arith, is-rec m (c .before)) in
-    called m e _ 3 (c .operand4 .ensures) (third-lower (can m e) (some m e) g) (third-part (can m e) (some m e) g)
-
-size-add-result-7 : (m : ℕ) → size-lts.Need-add-result-7 (size-calls m) (size-at m) size-reads.Post
-size-add-result-7 m c = omega (arith, rec-whole m c, can m (joins m (two-of-rec m c)) .small)
-
-size-mul-result-4 : (m : ℕ) → size-lts.Need-mul-result-4 (size-calls m) (size-at m) size-reads.Post
-size-mul-result-4 m c =
-    let e = joins m (two-of-rec m c) in
-    omega (arith, two-of-rec m c .before .before .before .operand .ensures, indices (can m e) (some m e) .0)
-
-size-element-copy-out-result-3 : (m : ℕ) → size-lts.Need-element-copy-out-result-3 (size-calls m) (size-at m) size-reads.Post
-size-element-copy-out-result-3 m c =
-    let e = joins m (two-of-rec m c) in
-    omega (arith, two-of-rec m c .before .before .before .operand .ensures, indices (can m e) (some m e) .0)
-
-size-mul-result-5 : (m : ℕ) → size-lts.Need-mul-result-5 (size-calls m) (size-at m) size-reads.Post
-size-mul-result-5 m c = omega (arith, rec-whole m (c .before), can m (joins m (two-of-rec m (c .before))) .small)
-
-size-add-result-8 : (m : ℕ) → size-lts.Need-add-result-8 (size-calls m) (size-at m) size-reads.Post
-size-add-result-8 m c = omega (arith, rec-whole m (c .before), can m (joins m (two-of-rec m (c .before))) .small)
-
-size-add-result-9 : (m : ℕ) → size-lts.Need-add-result-9 (size-calls m) (size-at m) size-reads.Post
-size-add-result-9 m c = omega (arith, rec-whole m (c .before), can m (joins m (two-of-rec m (c .before))) .small)
-
-size-returns-2 : (m : ℕ) → size-lts.Need-returns-2 (size-calls m) (size-at m) size-reads.Post
-size-returns-2 m c =
-    let d = c .before in
-    let e = joins m d in
-    omega (arith, first m d, second m d, seq-size (can m e) (some m e) (sym (kind-is m d) ∙ c .match .keys1))
-
-size-returns-3 : (m : ℕ) → size-lts.Need-returns-3 (size-calls m) (size-at m) size-reads.Post
-size-returns-3 m c =
-    let d = c .before in
-    let e = joins m d in
-    omega (arith, first m d, second m d, par-size (can m e) (some m e) (sym (kind-is m d) ∙ c .match .keys2))
-
-size-returns-4 : (m : ℕ) → size-lts.Need-returns-4 (size-calls m) (size-at m) size-reads.Post
-size-returns-4 m c = sym (ite-whole m (c .before .before))
-
-size-returns-5 : (m : ℕ) → size-lts.Need-returns-5 (size-calls m) (size-at m) size-reads.Post
-size-returns-5 m c = sym (rec-whole m (c .before))
+  returns-2 : size-lts.Need-returns-2 (size-calls m) (size-at m) size-reads.Post Inv-loop μ-loop
+  returns-2 c =
+      let e = joins (c .before .before .before .before .before) in
+      let a = table e in
+      let k = term e in
+      let all : c .before .loop .j ≡ operandsOf (kindOf a k) = omega (arith, c .before .loop .inv .0, c .loop-test .left, uses-are e) in
+      c .before .loop .inv .1 ∙ ap (summed a k (adds a k)) all ∙ sym (sized (can e) (some e))
 
 pub +size-spec : {M : Type 1} → statement M
 +size-spec = close μ-size λ m. size-lts.spec (size-calls m)
     (size-at m)
     size-reads.Post
-    (size-number-requires m)
-    (size-operands-requires m)
-    (size-returns m)
-    (size-operand-requires m)
-    (size-operand-requires-2 m)
-    (size-size-requires m)
-    (size-size-requires-2 m)
-    (size-add-two m)
-    (size-add-result m)
-    (size-add-result-2 m)
-    (size-operand-requires-3 m)
-    (size-size-requires-3 m)
-    (size-add-result-3 m)
-    (size-mul-result m)
-    (size-element-copy-out-result m)
-    (size-mul-result-2 m)
-    (size-add-result-4 m)
-    (size-add-result-5 m)
-    (size-mul-result-3 m)
-    (size-element-copy-out-result-2 m)
-    (size-add-result-6 m)
-    (size-operand-requires-4 m)
-    (size-size-requires-4 m)
-    (size-add-result-7 m)
-    (size-mul-result-4 m)
-    (size-element-copy-out-result-3 m)
-    (size-mul-result-5 m)
-    (size-add-result-8 m)
-    (size-add-result-9 m)
-    (size-returns-2 m)
-    (size-returns-3 m)
-    (size-returns-4 m)
-    (size-returns-5 m)
+    Inv-loop
+    μ-loop
+    (number-requires m)
+    (operands-requires m)
+    (returns m)
+    (operand-requires m)
+    (operand-requires-2 m)
+    (mul-own m)
+    (element-copy-out-own m)
+    (mul-own-2 m)
+    (element-copy-out-own-2 m)
+    (own-requires m)
+    (loop-holds m)
+    (add-operand m)
+    (operand-requires-3 m)
+    (size-requires m)
+    (add-cells m)
+    (add-j m)
+    (loop-less m)
+    (loop-again m)
+    (returns-2 m)
