@@ -1,0 +1,2 @@
+-- Laws of pairs of steps.
+pub mod Taking

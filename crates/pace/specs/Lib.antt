@@ -1,0 +1,2 @@
+-- What the benchmark's call leaves in its buffers. Definitions only.
+pub mod Pairs
