@@ -10,10 +10,10 @@ use lib.Seq.{take-at, drop-append-le}
 use borrow.Author.Tests.{leb-true}
 use Rattle.meaning.specs.Choices.{pick, and, padded}
 use Rattle.meaning.proofs.Tests.{by-test, both}
-use Rattle.verilog.specs.declared.Listed.{Listed}
-use Rattle.verilog.specs.declared.Reading.the-variants as reading
-use Rattle.verilog.specs.Numbers.{Result, numbers, notNumbers, begun, readFrom, limited, numbersIn, listedAs, listedIn}
-use Rattle.verilog.specs.Messages.{noListLine}
+use Rattle.numbers.specs.declared.Listed.{Listed}
+use Rattle.numbers.specs.declared.Reading.the-variants as reading
+use Rattle.numbers.specs.Lists.{Result, numbers, notNumbers, begun, readFrom, limited, numbersIn, listedAs, listedIn}
+use Rattle.console.specs.Messages.{noListLine}
 use Rattle.console.specs.Response.{printed, printedFor, responseTo}
 
 -- A result that keeps the limits.

@@ -24,11 +24,12 @@ use Rattle.circuit.specs.Compiling.{mainBlock, netlistOf, compileVerdict, compi
 use Rattle.circuit.proofs.Holds.{netlist-size}
 use Rattle.verilog.specs.declared.Written.{Written}
 use Rattle.verilog.specs.declared.Written.the-variants as written
-use Rattle.verilog.specs.Spelling.{placed, Wrote}
+use Rattle.spelling.specs.Pieces.{placed, Wrote}
 use Rattle.verilog.specs.Texts.{textOf}
-use Rattle.verilog.specs.Writing.{portsFit, writeVerdict, writtenOf, textAfter}
-use Rattle.verilog.specs.Messages.{refusedLine}
-use Rattle.verilog.proofs.Placing.{at-front}
+use Rattle.ports.specs.Interface.{portsFit}
+use Rattle.verilog.specs.Writing.{writeVerdict, writtenOf, textAfter}
+use Rattle.console.specs.Messages.{refusedLine}
+use Rattle.spelling.proofs.Placing.{at-front}
 use Rattle.console.specs.Response.{outWires, termText, textVerdict, printed}
 use Rattle.console.proofs.Meanings.{both-accept, test-accepts, emission-refused, Emits, emission-emitted, written-refused, written-length}
 

@@ -1,2 +1,3 @@
--- What the program prints. Definitions only.
+-- What the program prints. In reading order. Definitions only.
+pub mod Messages
 pub mod Response

@@ -1,5 +1,6 @@
 -- Response: what the program prints for the bytes that it reads. Definitions only.
--- Document 01: "The Verilog text", first paragraph. Read after: verilog's `Writing`, `Messages`, `Numbers`, circuit's `Compiling`.
+-- Document 01: "The Verilog text", first paragraph. Read after: `Messages`, numbers' `Lists`, verilog's `Writing`, circuit's
+-- `Compiling`.
 -- Assumes nothing.
 use Prim.Native.Nat.{ℕ}
 use mathlib.Core.List.{List}
@@ -16,8 +17,8 @@ use Rattle.verilog.specs.declared.Written.{Written}
 use Rattle.verilog.specs.declared.Written.the-variants as written
 use Rattle.verilog.specs.Texts.{textOf}
 use Rattle.verilog.specs.Writing.{writeVerdict}
-use Rattle.verilog.specs.Messages.{refusedLine, noListLine}
-use Rattle.verilog.specs.Numbers.{Result, numbers, notNumbers, numbersIn}
+use Rattle.console.specs.Messages.{refusedLine, noListLine}
+use Rattle.numbers.specs.Lists.{Result, numbers, notNumbers, numbersIn}
 
 -- How many numbers are lent for cells, and how many bytes for text.
 abbrev pub cellRoom : ℕ

@@ -1,12 +1,14 @@
 // What the program prints: for a list of numbers, a width and a table, the Verilog text of the
 // table's circuit; for anything else, one line. Document 01: "The Verilog text".
+mod messages;
+
 use circuit::Emission;
-use verilog::Reading;
+use numbers::Reading;
 use verilog::Written;
 ghost use mathlib.Core.Path.{_≡_};
 ghost use Prim.Native.Nat.{_≤_};
 ghost use lib.ListN.{length};
-ghost use Rattle.verilog.specs.Spelling.{Wrote};
+ghost use Rattle.spelling.specs.Pieces.{Wrote};
 ghost use Rattle.console.specs.Response.{
   printed,
   responseTo,
@@ -20,8 +22,8 @@ fn not_emitted(emission: Emission, text: &mut [u8; 65536]) -> usize
     ensures { λ r. ⌜ r ≤ 65536 ⌝ }
 {
     match emission {
-        Emission::Refused(number, place) => verilog::messages::refusal(text, number, place),
-        Emission::Emitted(_, _, _, _) => verilog::messages::refusal(text, 0, 0),
+        Emission::Refused(number, place) => messages::refusal(text, number, place),
+        Emission::Emitted(_, _, _, _) => messages::refusal(text, 0, 0),
     }
 }
 
@@ -31,8 +33,8 @@ fn not_written(written: Written, text: &mut [u8; 65536]) -> usize
     ensures { λ r. ⌜ r ≤ 65536 ⌝ }
 {
     match written {
-        Written::Refused(number, place) => verilog::messages::refusal(text, number, place),
-        Written::Length(_) => verilog::messages::refusal(text, 0, 0),
+        Written::Refused(number, place) => messages::refusal(text, number, place),
+        Written::Length(_) => messages::refusal(text, 0, 0),
     }
 }
 
@@ -61,10 +63,10 @@ pub fn respond(input: &[u8], text: &mut [u8; 65536]) -> usize
     ensures { λ r. ⌜ Wrote (now (text .entry)) 0 (responseTo (now (input .entry))) r (now (text .exit)) ⌝ }
     ensures { λ r. ⌜ r ≤ 65536 ⌝ }
 {
-    let list = verilog::numbers::read(input);
+    let list = numbers::read(input);
     let reading = list.reading;
     let Reading::Numbers(count) = reading else {
-        return verilog::messages::no_list(text);
+        return messages::no_list(text);
     };
     let numbers = list.numbers;
     let start: usize = 1;

@@ -18,10 +18,11 @@ use Rattle.circuit.specs.Netlists.{netlistVerdict}
 use Rattle.circuit.proofs.Checked.{checked}
 use Rattle.verilog.specs.declared.Written.{Written}
 use Rattle.verilog.specs.declared.Written.the-variants as written
-use Rattle.verilog.specs.Spelling.{Wrote}
+use Rattle.spelling.specs.Pieces.{Wrote}
 use Rattle.verilog.specs.Texts.{textOf}
-use Rattle.verilog.specs.Writing.{portsFit, writeVerdict, writtenOf, textAfter, passedOn}
-use Rattle.verilog.proofs.Placing.{at-front}
+use Rattle.ports.specs.Interface.{portsFit}
+use Rattle.verilog.specs.Writing.{writeVerdict, writtenOf, textAfter, passedOn}
+use Rattle.spelling.proofs.Placing.{at-front}
 
 -- An answer, and the buffer with it.
 abbrev pub Answers : ℕ → List ℕ → ℕ → ℕ → ℕ → List ℕ → List ℕ → Written → List ℕ → Type 0
@@ -57,22 +58,29 @@ module _ (w : ℕ) (net : List ℕ) (i o d : ℕ) (outs buffer : List ℕ) where
         let k = checked w net v in
         (k .wide .0, k .some .1, few .0, few .1)
 
-    -- 20: a count of the text says that it is longer than the buffer.
+    -- A count of the text says whether the buffer holds it: 20 where it does not.
     module _ {l u : List ℕ} (k : ℕ) (counted : Wrote l 0 (textOf w net i o d outs) k u) where
       long : k ≡ length (textOf w net i o d outs)
       long = counted .next-is ∙ zero-add _
 
+      too-long : length buffer < k → writeVerdict w net i o d outs (length buffer) ≡ verdict.Refused 20 0
+      unfolding writeVerdict
+      too-long h =
+          let q : length buffer < length (textOf w net i o d outs) = rw long at h in
+          rw (v, f, lt-leb) refl
+
       pub room-refused : length buffer < k → Answers w net i o d outs buffer (written.Refused 20 0) buffer
-      unfolding writtenOf textAfter writeVerdict
-      room-refused h =
-          let t = lt-leb (length (textOf w net i o d outs)) (length buffer) (rw long at h) in
-          (rw (v, f, t) refl, rw (v, f, t) refl)
+      unfolding writtenOf textAfter
+      room-refused h = let t = too-long h in (rw t refl, rw t refl)
 
       -- The text, where it fits.
+      holding : k ≤ length buffer → writeVerdict w net i o d outs (length buffer) ≡ verdict.Accepted
+      unfolding writeVerdict
+      holding h =
+          let q : length (textOf w net i o d outs) ≤ length buffer = rw long at h in
+          rw (v, f, le-leb) refl
+
       pub wrote : {m : ℕ} {after : List ℕ} → k ≤ length buffer → Wrote buffer 0 (textOf w net i o d outs) m after →
           Answers w net i o d outs buffer (written.Length k) after
-      unfolding writtenOf textAfter writeVerdict
-      wrote h p =
-          let q : length (textOf w net i o d outs) ≤ length buffer = rw long at h in
-          let t = le-leb (length (textOf w net i o d outs)) (length buffer) q in
-          (rw (v, f, t, long) refl, at-front p q ∙ rw (v, f, t) refl)
+      unfolding writtenOf textAfter
+      wrote h p = let t = holding h in (rw (t, long) refl, at-front p (rw long at h) ∙ rw t refl)

@@ -1,5 +1,4 @@
--- Cases: document 01's example text, every kind of line, the writer's refusals and lists of numbers, computed from the definitions.
--- Assumes nothing.
+-- Cases: document 01's example text, every kind of line and the writer's refusals, computed from the definitions. Assumes nothing.
 use Prim.Native.Nat.{ℕ, zero, suc, _^_}
 use Prim.Native.String.{String}
 use mathlib.Core.Path.{_≡_, refl}
@@ -13,12 +12,11 @@ use Rattle.circuit.specs.Cells.{portsOf, cellNumber}
 use Rattle.circuit.specs.Netlists.{cellRefusal, netlistVerdict}
 use Rattle.circuit.specs.Simulated.{inputsGiven}
 use Rattle.circuit.specs.Compiling.{netlistOf}
-use Rattle.verilog.specs.Spelling.{bytes, digitsWithin, digits, rows, spelled}
+use Rattle.spelling.specs.Pieces.{bytes, digitsWithin, digits, rows, spelled}
 use Rattle.verilog.specs.Lines.{declaration, operationLine, clockLine}
 use Rattle.verilog.specs.Texts.{textOf}
-use Rattle.verilog.specs.Writing.{outputsFit, portsFit, writeVerdict, writtenOf, writtenNumbers}
-use Rattle.verilog.specs.Messages.{refusedLine}
-use Rattle.verilog.specs.Numbers.{Result, numbers, notNumbers, readFrom, numbersIn}
+use Rattle.ports.specs.Interface.{outputsFit, portsFit}
+use Rattle.verilog.specs.Writing.{writeVerdict, writtenOf, writtenNumbers}
 
 -- One output wire, in an array of 16.
 abbrev only : ℕ → List ℕ
@@ -115,11 +113,6 @@ every-text : textOf 1 everyKind 2 2 6 (padded 16 (22 ∷ 1 ∷ [])) ≡ everyLin
 unfolding digitsWithin digits rows spelled declaration operationLine clockLine textOf
 every-text = refl
 
--- The largest number printed.
-large : digits 4294967295 ≡ bytes "4294967295"
-unfolding digitsWithin digits
-large = refl
-
 -- A call of the writer on these cells: width, i, o, done, outputs, room.
 data Call : Type 0 where
   call : ℕ → ℕ → ℕ → ℕ → List ℕ → ℕ → Call
@@ -149,16 +142,3 @@ unfolding digitsWithin digits rows spelled declaration operationLine clockLine t
     inputsGiven
     outputsFit portsFit writeVerdict writtenOf
 calls-answer = refl
-
--- Lists of numbers, and what is none: gaps around numbers, zeros in front, a tab, a number too large, no number.
-lists-read : map (λ (s : String). numbersIn (bytes s))
-    ("8 20 0 0 0" ∷ " \n7\n " ∷ "000000000000007" ∷ "4294967295" ∷ "4294967296" ∷ "1\t2" ∷ "1\r\n" ∷ "-1" ∷ "" ∷ "\n" ∷ []) ≡
-    numbers (8 ∷ 20 ∷ 0 ∷ 0 ∷ 0 ∷ []) ∷ numbers (7 ∷ []) ∷ numbers (7 ∷ []) ∷ numbers (4294967295 ∷ []) ∷
-    notNumbers ∷ notNumbers ∷ notNumbers ∷ notNumbers ∷ notNumbers ∷ notNumbers ∷ []
-unfolding readFrom numbersIn
-lists-read = refl
-
--- A line for a refusal.
-refusal-line : refusedLine 5 1 ≡ bytes "refused 5 at 1\n"
-unfolding digitsWithin digits rows spelled refusedLine
-refusal-line = refl

@@ -6,14 +6,11 @@ use mathlib.Core.Bool.{Bool, true, false}
 use mathlib.Core.List.{List, _++_}
 use Rattle.meaning.specs.Choices.{at}
 use Rattle.circuit.specs.Cells.{cellNumber, kindAt, cellCount}
-use Rattle.verilog.specs.declared.Blanks.{Blanks}
-use Rattle.verilog.specs.Spelling.{bytes, rows, filled}
+use Rattle.spelling.specs.declared.Blanks.{Blanks}
+use Rattle.spelling.specs.Pieces.{bytes, rows, blanks, filled}
 use Rattle.verilog.specs.Lines.{cellLine}
 
--- A template filled with a width and the numbers n and x.
-abbrev pub blanks : ℕ → ℕ → ℕ → Blanks
-blanks w n x = record { n = n; x = x; y = 0; z = 0; width = w; top = w - 1 }
-
+-- A line about the module itself: a template filled with a width and a wire x.
 abbrev pub line : ℕ → ℕ → String → List ℕ
 line w x t = filled (blanks w 0 x) (bytes t)
 

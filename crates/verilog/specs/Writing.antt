@@ -1,40 +1,18 @@
--- Writing: the refusals 19 and 20, and what the writer answers and writes. Definitions only.
--- Document 01: "Refusal numbers", "The Verilog text". Read after: `Texts`, circuit's `Netlists`, `Simulated`. Assumes nothing.
-use Prim.Native.Nat.{ℕ, zero, suc}
-use mathlib.Core.Bool.{Bool, true}
+-- Writing: refusal 20, and what the writer answers and writes. Definitions only.
+-- Document 01: "Refusal numbers", "The Verilog text". Read after: `Texts`, ports' `Interface`, circuit's `Netlists`. Assumes nothing.
+use Prim.Native.Nat.{ℕ, suc}
 use mathlib.Core.List.{List, [], _∷_, _++_}
-use lib.Dec.{eqb, ltb, leb}
+use lib.Dec.{leb}
 use lib.ListN.{length, drop}
 use Rattle.meaning.specs.declared.Verdict.{Verdict}
 use Rattle.meaning.specs.declared.Verdict.the-variants as verdict
-use Rattle.meaning.specs.Choices.{pick, and, at}
-use Rattle.meaning.specs.Checks.{fewWords}
+use Rattle.meaning.specs.Choices.{pick}
 use Rattle.meaning.specs.Answers.{onVerdict}
-use Rattle.circuit.specs.Cells.{kindAt, cellCount, bitKind, wordKind}
 use Rattle.circuit.specs.Netlists.{netlistVerdict}
-use Rattle.circuit.specs.Simulated.{inputsGiven}
+use Rattle.ports.specs.Interface.{portsFit}
 use Rattle.verilog.specs.declared.Written.{Written}
 use Rattle.verilog.specs.declared.Written.the-variants as written
 use Rattle.verilog.specs.Texts.{textOf}
-
--- A wire that is there and that a cell of these kinds drives.
-abbrev pub wireOf : (ℕ → Bool) → List ℕ → ℕ → Bool
-wireOf kinds net n = and (ltb n (cellCount net)) (kinds (kindAt net n))
-
--- The first n of 16 outputs: each of the first o is a word wire, each past them is 0.
-unfoldable pub outputsFit : List ℕ → ℕ → List ℕ → ℕ → Bool
-outputsFit net o outs zero = true
-outputsFit net o outs (suc n) =
-    and (outputsFit net o outs n) (pick (ltb n o) (wireOf wordKind net (at outs n)) (eqb (at outs n) 0))
-
--- 19: i and o are 1 to 16, every input cell names a word below i, done is a bit wire, the outputs fit.
-unfoldable pub portsFit : List ℕ → ℕ → ℕ → ℕ → List ℕ → Bool
-portsFit net i o d outs =
-    and (fewWords i)
-    (and (fewWords o)
-    (and (inputsGiven net i (cellCount net))
-    (and (wireOf bitKind net d)
-    (outputsFit net o outs 16))))
 
 -- 1, 12 to 16, 19, and 20: a buffer of `room` bytes holds the text.
 unfoldable pub writeVerdict : ℕ → List ℕ → ℕ → ℕ → ℕ → List ℕ → ℕ → Verdict

@@ -1,10 +1,7 @@
-// A netlist as Verilog text in lent memory, and lists of decimal numbers read from text.
+// A netlist as Verilog text in lent memory.
 // Document 01: "The Verilog text".
 mod lines;
-pub mod messages;
-pub mod numbers;
-mod pieces;
-mod ports;
+mod templates;
 
 use meaning::Verdict;
 ghost use mathlib.Core.Path.{_≡_};
@@ -17,28 +14,6 @@ ghost use Rattle.verilog.specs.Writing.{writtenOf, textAfter, passedOn};
 pub enum Written {
     Length(u32),
     Refused(u32, u32),
-}
-
-// What the capitals N, X, Y, Z, W and T of a template stand for.
-pub struct Blanks {
-    pub n: u32,
-    pub x: u32,
-    pub y: u32,
-    pub z: u32,
-    pub width: u32,
-    pub top: u32,
-}
-
-// How reading a list of numbers ends: so many numbers, or no list of numbers.
-pub enum Reading {
-    Numbers(u32),
-    NotNumbers,
-}
-
-// The numbers read, those past their count 0.
-pub struct Listed {
-    pub reading: Reading,
-    pub numbers: [u32; 1025],
 }
 
 // A refusal of the netlist, passed on.

@@ -1,15 +1,16 @@
 // Lines of the text: rows of ports, the lines of each cell, and the whole text.
-use crate::Blanks;
-use crate::pieces::fill;
+use crate::templates;
+use spelling::Blanks;
+use spelling::blanks_of;
+use spelling::fill;
 ghost use mathlib.Core.Path.{_≡_};
 ghost use mathlib.Core.Bool.{Bool, true, false};
 ghost use Prim.Native.Nat.{ℕ, _+_, _*_, _^_, _≤_, _<_};
 ghost use lib.ListN.{length};
 ghost use Rattle.circuit.specs.Cells.{kindAt, cellCount};
-ghost use Rattle.verilog.specs.Spelling.{bytes, filled, Wrote};
-ghost use Rattle.verilog.specs.Lines.{declaration, operationLine, register, clockLine};
+ghost use Rattle.spelling.specs.Pieces.{bytes, filled, Wrote};
+ghost use Rattle.verilog.specs.Lines.{declaration, register, clockLine};
 ghost use Rattle.verilog.specs.Texts.{
-  blanks as blanksOf,
   eachOf,
   names as namesOf,
   portLines,
@@ -19,21 +20,6 @@ ghost use Rattle.verilog.specs.Texts.{
   ending as endingOf,
   textOf,
 };
-
-// The blanks of a line about a port.
-pub fn port_blanks(width: u32, n: u32, x: u32) -> Blanks
-    requires { ⌜ 0 < width ⌝ }
-    ensures { λ r. ⌜ r ≡ blanksOf width n x ⌝ }
-{
-    Blanks {
-        n: n,
-        x: x,
-        y: 0,
-        z: 0,
-        width: width,
-        top: width - 1,
-    }
-}
 
 // The blanks of a line about cell n.
 fn cell_blanks(width: u32, netlist: &[u32], n: usize) -> Blanks
@@ -67,54 +53,24 @@ fn row(
     let mut j: u32 = 0;
     while j < count {
         let wire = outs[j as usize];
-        next = fill(text, next, template, port_blanks(width, j, wire));
+        next = fill(text, next, template, blanks_of(width, j, wire));
         j += 1;
     }
     next
 }
 
-// Writes the declaration of a cell of this kind.
+// Writes the declaration of a cell of this kind; what is no kind has none.
 fn declare(text: &mut [u8], at: usize, kind: u32, blanks: Blanks) -> usize
     requires { ⌜ at < 2 ^ 32 ⌝ }
     ensures { λ r. ⌜ Wrote (now (text .entry)) at (filled blanks (bytes (declaration kind))) r (now (text .exit)) ⌝ }
     ensures { λ r. ⌜ r ≤ at + 640 ⌝ }
 {
-    match kind {
-        0 => fill(text, at, b"  wire wN = load;\n", blanks),
-        1 => fill(text, at, b"  wire wN = !wX;\n", blanks),
-        2 => fill(text, at, b"  wire wN = wX & wY;\n", blanks),
-        3 => fill(text, at, b"  wire wN = wX | wY;\n", blanks),
-        4 => fill(text, at, b"  reg wN = 0;\n", blanks),
-        5 => fill(text, at, b"  reg wN = 1;\n", blanks),
-        6 => fill(text, at, b"  wire wN = wX != 0;\n", blanks),
-        8 => fill(text, at, b"  wire [T:0] wN = inpX;\n", blanks),
-        9 => fill(text, at, b"  wire [T:0] wN = W'dX;\n", blanks),
-        10 => fill(text, at, b"  reg [T:0] wN = 0;\n", blanks),
-        11 => fill(text, at, b"  wire [T:0] wN = wX ? wY : wZ;\n", blanks),
-        12 => fill(text, at, b"  wire [T:0] wN = wX;\n", blanks),
-        _ => operate(text, at, kind, blanks),
+    if 22 < kind {
+        return at;
     }
-}
-
-// Writes the declaration of a cell that computes.
-fn operate(text: &mut [u8], at: usize, kind: u32, blanks: Blanks) -> usize
-    requires { ⌜ at < 2 ^ 32 ⌝ }
-    ensures { λ r. ⌜ Wrote (now (text .entry)) at (filled blanks (bytes (operationLine kind))) r (now (text .exit)) ⌝ }
-    ensures { λ r. ⌜ r ≤ at + 640 ⌝ }
-{
-    match kind {
-        13 => fill(text, at, b"  wire [T:0] wN = wX + wY;\n", blanks),
-        14 => fill(text, at, b"  wire [T:0] wN = wX - wY;\n", blanks),
-        15 => fill(text, at, b"  wire [T:0] wN = wX & wY;\n", blanks),
-        16 => fill(text, at, b"  wire [T:0] wN = wX | wY;\n", blanks),
-        17 => fill(text, at, b"  wire [T:0] wN = wX ^ wY;\n", blanks),
-        18 => fill(text, at, b"  wire [T:0] wN = wX == wY;\n", blanks),
-        19 => fill(text, at, b"  wire [T:0] wN = wX < wY;\n", blanks),
-        20 => fill(text, at, b"  wire [T:0] wN = ~wX;\n", blanks),
-        21 => fill(text, at, b"  wire [T:0] wN = wX << 1;\n", blanks),
-        22 => fill(text, at, b"  wire [T:0] wN = wX >> 1;\n", blanks),
-        _ => at,
-    }
+    let row = templates::row(kind);
+    let length = templates::length(kind);
+    fill(text, at, &row[..length], blanks)
 }
 
 // Writes the clock line of a register; other cells have none.
@@ -181,7 +137,7 @@ fn names(text: &mut [u8], width: u32, i: u32, o: u32, outs: &[u32; 16]) -> usize
     ensures { λ r. ⌜ Wrote (now (text .entry)) 0 (namesOf width i o (now (outs .entry))) r (now (text .exit)) ⌝ }
     ensures { λ r. ⌜ r ≤ 22400 ⌝ }
 {
-    let none = port_blanks(width, 0, 0);
+    let none = blanks_of(width, 0, 0);
     let at = fill(text, 0, b"module f (clk,load", none);
     let at = row(text, at, b",inpN", width, i, outs);
     let at = fill(text, at, b",done", none);
@@ -195,7 +151,7 @@ fn port_lines(text: &mut [u8], at: usize, width: u32, i: u32, o: u32, outs: &[u3
     ensures { λ r. ⌜ Wrote (now (text .entry)) at (portLines width i o (now (outs .entry))) r (now (text .exit)) ⌝ }
     ensures { λ r. ⌜ r ≤ at + 21760 ⌝ }
 {
-    let none = port_blanks(width, 0, 0);
+    let none = blanks_of(width, 0, 0);
     let at = fill(text, at, b"  input clk,load;\n", none);
     let at = row(text, at, b"  input [T:0] inpN;\n", width, i, outs);
     let at = fill(text, at, b"  output done;\n", none);
@@ -212,10 +168,10 @@ fn ending(text: &mut [u8], at: usize, width: u32, o: u32, done: u32, outs: &[u32
         text,
         at,
         b"  assign done = wX;\n",
-        port_blanks(width, 0, done),
+        blanks_of(width, 0, done),
     );
     let at = row(text, at, b"  assign outN = wX;\n", width, o, outs);
-    fill(text, at, b"endmodule\n", port_blanks(width, 0, 0))
+    fill(text, at, b"endmodule\n", blanks_of(width, 0, 0))
 }
 
 // Writes the whole text.

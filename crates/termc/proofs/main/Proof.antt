@@ -3,7 +3,7 @@ use mathlib.Core.Path.{sym}
 use native.Mathlib.Omega.{arith}
 use lib.Seq.{length-take-le}
 use borrow.Author.Needs.{needs}
-use Rattle.verilog.proofs.Placing.{same-length}
+use Rattle.spelling.proofs.Placing.{same-length}
 use Rattle.termc.proofs.main.Statement.{statement}
 use Rattle.termc.proofs.main.Tie as tie
 

@@ -6,7 +6,7 @@ use borrow.Author.Tests.{not-true, not-false}
 use borrow.Author.Needs.{needs}
 use Rattle.meaning.specs.declared.Verdict.the-variants as verdict
 use Rattle.circuit.specs.Netlists.{netlistVerdict}
-use Rattle.verilog.specs.Writing.{portsFit}
+use Rattle.ports.specs.Interface.{portsFit}
 use Rattle.verilog.proofs.Answering.{netlist-refused, ports-refused, may-write, room-refused, wrote}
 use Rattle.verilog.proofs.write.Statement.{statement}
 use Rattle.verilog.proofs.write.Tie as tie

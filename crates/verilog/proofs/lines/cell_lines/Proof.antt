@@ -6,9 +6,9 @@ use mathlib.Core.Path.{_≡_}
 use native.Mathlib.Omega.{arith}
 use borrow.Author.Needs.{needs}
 use Rattle.meaning.specs.Choices.{at}
-use Rattle.verilog.specs.Spelling.{rows, Wrote}
+use Rattle.spelling.specs.Pieces.{rows, Wrote}
 use Rattle.verilog.specs.Texts.{cellText}
-use Rattle.verilog.proofs.Placing.{no-rows, row-more, same-length as wrote-same-length}
+use Rattle.spelling.proofs.Placing.{no-rows, row-more, same-length as wrote-same-length}
 use Rattle.verilog.proofs.lines.cell_lines.Statement.{statement}
 use Rattle.verilog.proofs.lines.cell_lines.Tie as tie
 

@@ -2,7 +2,7 @@
 use native.Mathlib.Omega.{arith}
 use borrow.Author.Needs.{needs}
 use Rattle.verilog.specs.Lines.{clockLine}
-use Rattle.verilog.proofs.Placing.{no-rows}
+use Rattle.spelling.proofs.Placing.{no-rows}
 use Rattle.verilog.proofs.lines.clock.Statement.{statement}
 use Rattle.verilog.proofs.lines.clock.Tie as tie
 

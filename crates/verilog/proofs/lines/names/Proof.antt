@@ -2,12 +2,12 @@
 use native.Mathlib.Omega.{arith}
 use borrow.Author.Needs.{needs}
 use Rattle.meaning.specs.Choices.{at}
-use Rattle.verilog.proofs.Placing.{then}
+use Rattle.spelling.proofs.Placing.{then}
 use Rattle.verilog.proofs.lines.names.Statement.{statement}
 use Rattle.verilog.proofs.lines.names.Tie as tie
 
-port-blanks-requires : tie.Need-port-blanks-requires
-port-blanks-requires c κs = search needs
+blanks-of-requires : tie.Need-blanks-of-requires
+blanks-of-requires c κs = search needs
 
 slice-aggregate-fill : tie.Need-slice-aggregate-fill
 slice-aggregate-fill c = search needs
@@ -45,7 +45,7 @@ same-length c = search needs
 returns : tie.Need-returns
 returns c =
     let p = c .before .before .before .before .before .before .before .before .before .before .before .before .before .before .before
-    .before .before .before .before .before .before .before .before .before .before .port-blanks .ensures in
+    .before .before .before .before .before .before .before .before .before .before .blanks-of .ensures in
     let f1 = c .before .before .before .before .before .before .before .before .before .before .before .before .before .before .before
     .before .before .before .before .before .before .before .fill .ensures in
     let r1 = c .before .before .before .before .before .before .before .before .before .before .before .before .before .before .before
@@ -61,7 +61,7 @@ pub names-spec : {M : Type 1} → statement M
 names-spec =
     tie.close
     (tie.spec
-    port-blanks-requires
+    blanks-of-requires
     slice-aggregate-fill
     fill-requires
     slice-aggregate-row

@@ -2,12 +2,12 @@
 use native.Mathlib.Omega.{arith}
 use borrow.Author.Needs.{needs}
 use Rattle.meaning.specs.Choices.{at}
-use Rattle.verilog.proofs.Placing.{then}
+use Rattle.spelling.proofs.Placing.{then}
 use Rattle.verilog.proofs.lines.port_lines.Statement.{statement}
 use Rattle.verilog.proofs.lines.port_lines.Tie as tie
 
-port-blanks-requires : tie.Need-port-blanks-requires
-port-blanks-requires c κs = search needs
+blanks-of-requires : tie.Need-blanks-of-requires
+blanks-of-requires c κs = search needs
 
 slice-aggregate-fill : tie.Need-slice-aggregate-fill
 slice-aggregate-fill c = search needs
@@ -39,7 +39,7 @@ same-length c = search needs
 returns : tie.Need-returns
 returns c =
     let p = c .before .before .before .before .before .before .before .before .before .before .before .before .before .before .before
-    .before .before .before .before .before .port-blanks .ensures in
+    .before .before .before .before .before .blanks-of .ensures in
     let f1 = c .before .before .before .before .before .before .before .before .before .before .before .before .before .before .before
     .before .before .fill .ensures in
     let r1 = c .before .before .before .before .before .before .before .before .before .before .before .before .row .ensures in
@@ -51,7 +51,7 @@ pub port-lines-spec : {M : Type 1} → statement M
 port-lines-spec =
     tie.close
     (tie.spec
-    port-blanks-requires
+    blanks-of-requires
     slice-aggregate-fill
     fill-requires
     slice-aggregate-row

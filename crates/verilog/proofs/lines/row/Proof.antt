@@ -6,9 +6,9 @@ use mathlib.Core.Path.{_≡_}
 use native.Mathlib.Omega.{arith}
 use borrow.Author.Needs.{needs}
 use Rattle.meaning.specs.Choices.{at}
-use Rattle.verilog.specs.Spelling.{Wrote}
+use Rattle.spelling.specs.Pieces.{Wrote}
 use Rattle.verilog.specs.Texts.{eachOf}
-use Rattle.verilog.proofs.Placing.{no-rows, row-more, same-length as wrote-same-length}
+use Rattle.spelling.proofs.Placing.{no-rows, row-more, same-length as wrote-same-length}
 use Rattle.verilog.proofs.lines.row.Statement.{statement}
 use Rattle.verilog.proofs.lines.row.Tie as tie
 
@@ -31,8 +31,8 @@ mul-wire c = search needs
 element-copy-out-wire : tie.Need-element-copy-out-wire Inv-loop μ-loop
 element-copy-out-wire c = search needs
 
-port-blanks-requires : tie.Need-port-blanks-requires Inv-loop μ-loop
-port-blanks-requires c κs = search needs
+blanks-of-requires : tie.Need-blanks-of-requires Inv-loop μ-loop
+blanks-of-requires c κs = search needs
 
 fill-requires : tie.Need-fill-requires Inv-loop μ-loop
 fill-requires c κs = search needs
@@ -47,7 +47,7 @@ loop-again : tie.Need-loop-again Inv-loop μ-loop
 loop-again c =
     let L = c .before .before .before .before .before .before .before .loop in
     let f = c .before .before .fill .ensures in
-    (omega arith, omega (arith, f .1, L .inv .1), row-more _ (L .inv .2) (rw (c .before .before .before .port-blanks .ensures) at (f .0)))
+    (omega arith, omega (arith, f .1, L .inv .1), row-more _ (L .inv .2) (rw (c .before .before .before .blanks-of .ensures) at (f .0)))
 
 same-length : tie.Need-same-length Inv-loop μ-loop
 same-length c = wrote-same-length (c .before .loop .inv .2)
@@ -69,7 +69,7 @@ row-spec =
     cast-wire
     mul-wire
     element-copy-out-wire
-    port-blanks-requires
+    blanks-of-requires
     fill-requires
     add-j
     loop-less

@@ -2,7 +2,7 @@
 use native.Mathlib.Omega.{arith}
 use borrow.Author.Needs.{needs}
 use Rattle.verilog.specs.Texts.{names, ending, textOf}
-use Rattle.verilog.proofs.Placing.{then}
+use Rattle.spelling.proofs.Placing.{then}
 use Rattle.verilog.proofs.lines.whole.Statement.{statement}
 use Rattle.verilog.proofs.lines.whole.Tie as tie
 

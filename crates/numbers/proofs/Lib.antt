@@ -1,0 +1,5 @@
+-- What is shown of the definitions.
+pub mod Cases
+pub mod ByteByByte
+pub mod Underway
+pub mod Unique
