@@ -1,67 +1,12 @@
-//! The proved library through its C interface, as `include/rumiotka.h` declares it.
+//! The proved library through its C interface, with all that is lent and answered under guard.
 //!
 //! Every slice is lent between guards. Answers are lent full of rubbish, so that a number which a
 //! call leaves out is noticed.
 
+use crate::interface::*;
 use crate::lent::Lent;
 use model::toolchain::Toolchain;
 use model::MOST_WORDS;
-
-extern "C" {
-    fn rumiotka_evaluate(
-        width: u32,
-        table: *const u32,
-        table_len: usize,
-        words: *const u32,
-        words_len: usize,
-        budget: u32,
-        answer: *mut u32,
-    );
-    fn rumiotka_compile(
-        width: u32,
-        table: *const u32,
-        table_len: usize,
-        netlist: *mut u32,
-        netlist_len: usize,
-        answer: *mut u32,
-    );
-    fn rumiotka_power_up(
-        width: u32,
-        netlist: *const u32,
-        netlist_len: usize,
-        load: u32,
-        words: *const u32,
-        words_len: usize,
-        wires: *mut u32,
-        wires_len: usize,
-        answer: *mut u32,
-    );
-    fn rumiotka_step(
-        width: u32,
-        netlist: *const u32,
-        netlist_len: usize,
-        before: *const u32,
-        before_len: usize,
-        load: u32,
-        words: *const u32,
-        words_len: usize,
-        after: *mut u32,
-        after_len: usize,
-        answer: *mut u32,
-    );
-    fn rumiotka_write(
-        width: u32,
-        netlist: *const u32,
-        netlist_len: usize,
-        i: u32,
-        o: u32,
-        done: u32,
-        outs: *const u32,
-        text: *mut u8,
-        text_len: usize,
-        answer: *mut u32,
-    );
-}
 
 /// The proved library as a toolchain.
 pub struct Proved;

@@ -1,17 +1,16 @@
-//! `stack SEED CASES`: makes the calls on the deepest tables and the largest netlists, each on a
-//! thread that has as much stack as `include/rumiotka.h` says a call takes, and a little for the
-//! thread itself. A call that needs more ends the program.
+//! `stack SEED CASES`: makes the calls on the deepest tables and the largest netlists and prints the
+//! most stack that each sort of call takes. One that is refused, or takes more than
+//! `include/rumiotka.h` states, fails.
 
-use differential::proved::Proved;
+use differential::depth;
+use differential::direct::Direct;
 use model::random::calls::Call;
 use model::random::netlists::{compiled, foreign};
 use model::random::{limits, Random};
-use model::toolchain::Toolchain;
 use std::process::ExitCode;
-use std::thread::Builder;
 
-/// What a thread takes beside the call: its own bookkeeping and the lending.
-const BESIDE: usize = 16 << 10;
+/// The calls, in the order in which they are made.
+const NAMES: [&str; 5] = ["evaluate", "compile", "power_up", "step", "write"];
 
 /// Gives the stack of a call, as the header states it.
 fn stated(call: &Call) -> usize {
@@ -40,17 +39,31 @@ fn calls(random: &mut Random) -> Vec<Call> {
     ]
 }
 
-/// Makes a call on a thread with the stack that is stated for it; says whether it is accepted.
-fn fits(call: &Call) -> bool {
-    let outcome = |toolchain: &dyn Toolchain| model::differ::outcome(toolchain, call).0[0];
-    std::thread::scope(|scope| {
-        let thread = Builder::new().stack_size(stated(call) + BESIDE);
-        let running = thread.spawn_scoped(scope, || outcome(&Proved));
-        running.expect("a thread starts").join().expect("a call returns") == 0
-    })
+/// Makes a call; gives the stack that it takes, or nothing where it is refused.
+fn taken(call: &Call) -> Option<usize> {
+    let mut number = 0;
+    let bytes = depth::of(&mut || number = model::differ::outcome(&Direct, call).0[0]);
+    (number == 0).then_some(bytes)
 }
 
-/// Makes all calls.
+/// Makes all calls; gives how many fail, and the most stack that each sort takes.
+fn measure(seed: u64, cases: u64) -> (u64, [usize; 5]) {
+    let mut random = Random::new(seed);
+    let (mut failed, mut most) = (0, [0; 5]);
+    for _ in 0..cases {
+        for (sort, call) in calls(&mut random).iter().enumerate() {
+            let bytes = taken(call);
+            most[sort] = most[sort].max(bytes.unwrap_or(0));
+            if bytes.is_none_or(|bytes| bytes > stated(call)) {
+                println!("{} is refused or takes more than is stated: {bytes:?}", NAMES[sort]);
+                failed += 1;
+            }
+        }
+    }
+    (failed, most)
+}
+
+/// Makes all calls and prints what they take.
 fn main() -> ExitCode {
     let numbers: Option<Vec<u64>> = std::env::args().skip(1).map(|a| a.parse().ok()).collect();
     let Some([seed, cases]) = numbers.as_deref() else {
@@ -58,22 +71,10 @@ fn main() -> ExitCode {
         return ExitCode::from(2);
     };
     println!("seed {seed}");
-    let mut random = Random::new(*seed);
-    let (mut passed, mut failed) = (0, 0);
-    for _ in 0..*cases {
-        for call in calls(&mut random) {
-            if fits(&call) {
-                passed += 1;
-            } else {
-                println!("seed {seed}: a call on the deepest tables is refused");
-                failed += 1;
-            }
-        }
+    let (failed, most) = measure(*seed, *cases);
+    for (name, bytes) in NAMES.iter().zip(most) {
+        println!("{name} takes at most {bytes} bytes of stack");
     }
-    println!("{passed} passed, {failed} failed");
-    if failed == 0 {
-        ExitCode::SUCCESS
-    } else {
-        ExitCode::FAILURE
-    }
+    println!("{} passed, {failed} failed", 5 * cases - failed);
+    ExitCode::from(u8::from(failed > 0))
 }
