@@ -68,7 +68,7 @@ pub fn design(
 }
 
 /// Gives the text that the toolchain writes.
-fn text(toolchain: &dyn Toolchain, width: u32, circuit: &Ported) -> String {
+pub fn text(toolchain: &dyn Toolchain, width: u32, circuit: &Ported) -> String {
     let mut text = vec![0; 1 << 20];
     let Ported { netlist, i, o, done, outs } = circuit;
     let [number, place, length] = toolchain.write(width, netlist, *i, *o, *done, outs, &mut text);
@@ -92,7 +92,7 @@ pub fn simulate(directory: &Path, designs: &[Design]) -> Result<String> {
 }
 
 /// Runs a tool in a directory and gives what it prints; a tool that fails is an error.
-fn run(directory: &Path, tool: &str, arguments: &[&str]) -> Result<String> {
+pub fn run(directory: &Path, tool: &str, arguments: &[&str]) -> Result<String> {
     let output = Command::new(tool).args(arguments).current_dir(directory).output()?;
     if !output.status.success() {
         let message = String::from_utf8_lossy(&output.stderr).into_owned();
