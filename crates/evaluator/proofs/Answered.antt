@@ -26,7 +26,8 @@ use Rattle.meaning.proofs.Lists.{column-at}
 use Rattle.meaning.proofs.Accepted.{accepted}
 use Rattle.meaning.proofs.Typed.{ins-few}
 use Rattle.meaning.proofs.Alike.{padded-evaluates}
-use Rattle.runs.specs.Runs.{Ready, termFrom, Leaves}
+use Rattle.leaves.specs.Results.{Leaves}
+use Rattle.runs.specs.Runs.{Ready, termFrom}
 use Rattle.evaluator.specs.Answered.{ranOn, acceptedOn}
 use Rattle.runs.proofs.Turns.{gave, was-unfinished}
 use Rattle.runs.proofs.Parts.{counted, in-array}

@@ -1,4 +1,3 @@
 -- The laws that the proofs of the term evaluator share, and those by which its callers read what it leaves.
-pub mod Joined
 pub mod Turns
 pub mod Parts

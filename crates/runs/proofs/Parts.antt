@@ -14,7 +14,8 @@ use Rattle.meaning.proofs.Accepted.{Accepted, accepted}
 use Rattle.meaning.proofs.Rows.{Rows, SeqRow, ParRow, IteRow, RecRow, LeafRow, rows}
 use Rattle.meaning.proofs.Typed.{well, outs-few}
 use Rattle.meaning.proofs.Lengths.{evaluate-length}
-use Rattle.runs.specs.Runs.{Ready, runFrom, termFrom}
+use Rattle.leaves.specs.Results.{runFrom}
+use Rattle.runs.specs.Runs.{Ready, termFrom}
 use Rattle.runs.proofs.Turns.{Gave}
 
 -- Two operands, and three.

@@ -1,2 +1,2 @@
--- What the term evaluator is asked, and what it leaves. Definitions only.
+-- What the term evaluator is asked, and the run that it makes. Definitions only.
 pub mod Runs

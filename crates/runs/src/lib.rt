@@ -3,15 +3,13 @@
 // its operands, whose numbers are lower. Cycles are counted from the start of the whole run up to
 // the budget, the limit, so no sum of them can wrap. Document 01: "Cycles".
 //
-//     term     by the kind: the four below, or a leaf
+//     term     by the kind: the four below, or `leaves::leaf`
 //     seq, par, ite, rounds   the combinators; `rounds` is the round evaluator of Rec
-//     leaves   terms of kind 9 and above, and the words and cycles of the two sides of Par
-mod leaves;
-
 use meaning::End;
 ghost use mathlib.Core.Path.{_≡_};
 ghost use Rattle.meaning.specs.Terms.{kindOf};
-ghost use Rattle.runs.specs.Runs.{Startable, termFrom, Leaves};
+ghost use Rattle.leaves.specs.Results.{Leaves};
+ghost use Rattle.runs.specs.Runs.{Startable, termFrom};
 
 // The run of term k, by its kind.
 pub fn term(

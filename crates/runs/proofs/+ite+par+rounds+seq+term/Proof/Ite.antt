@@ -4,7 +4,8 @@ use Prim.Native.Nat.{ℕ}
 use native.Mathlib.Omega.{arith}
 use borrow.Author.Needs.{needs}
 use Rattle.meaning.specs.Terms.{tree}
-use Rattle.runs.proofs.Turns.{leaves-as, Gave, gave}
+use Rattle.leaves.proofs.Left.{leaves-as}
+use Rattle.runs.proofs.Turns.{Gave, gave}
 use Rattle.runs.proofs.Turns.{ite-unfinished, ite-from-then, ite-from-else}
 use Rattle.runs.proofs.Parts.{IteParts, long, ite-parts}
 use Rattle.runs.proofs.+ite+par+rounds+seq+term.Proof.Measures.{ite-at, ite-calls}

@@ -18,9 +18,9 @@ use Rattle.runs.proofs.+ite+par+rounds+seq+term.Lts-rounds as rounds-lt
 use Rattle.runs.proofs.term.Reads as term
 use Rattle.runs.proofs.term.Kinds as term-kinds
 use Rattle.runs.proofs.+ite+par+rounds+seq+term.Lts-term as term-lts
-use Rattle.runs.proofs.leaves.join.Reads as join-reads
-use Rattle.runs.proofs.leaves.later.Reads as later-reads
-use Rattle.runs.proofs.leaves.leaf.Reads as leaf-reads
+use Rattle.leaves.proofs.join.Reads as join-reads
+use Rattle.leaves.proofs.later.Reads as later-reads
+use Rattle.leaves.proofs.leaf.Reads as leaf-reads
 use Rattle.tables.proofs.number.Reads as number-reads
 use Rattle.tables.proofs.operand.Reads as operand-reads
 

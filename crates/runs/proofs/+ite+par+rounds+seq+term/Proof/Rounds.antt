@@ -5,7 +5,8 @@ use mathlib.Core.Path.{refl, _∙_}
 use native.Mathlib.Omega.{arith}
 use borrow.Author.Needs.{needs}
 use Rattle.meaning.specs.Terms.{tree}
-use Rattle.runs.proofs.Turns.{leaves-as, Gave, gave, Going}
+use Rattle.leaves.proofs.Left.{leaves-as}
+use Rattle.runs.proofs.Turns.{Gave, gave, Going}
 use Rattle.runs.proofs.Turns.{rec-unfinished, rec-from-last}
 use Rattle.runs.proofs.Turns.{rec-unfinished-body, rec-unfinished-fed, rec-from-more}
 use Rattle.runs.proofs.Parts.{RecParts, long}

@@ -3,7 +3,8 @@ use Prim.Native.Nat.{ℕ}
 use native.Mathlib.Omega.{arith}
 use borrow.Author.Needs.{needs}
 use Rattle.meaning.specs.Terms.{tree}
-use Rattle.runs.proofs.Turns.{leaves-as, Gave, gave, seq-unfinished, seq-from}
+use Rattle.leaves.proofs.Left.{leaves-as}
+use Rattle.runs.proofs.Turns.{Gave, gave, seq-unfinished, seq-from}
 use Rattle.runs.proofs.Parts.{SeqParts, long, seq-parts}
 use Rattle.runs.proofs.+ite+par+rounds+seq+term.Proof.Measures.{seq-at, seq-calls}
 use Rattle.runs.proofs.seq.Reads as seq

@@ -2,7 +2,7 @@
 use Prim.Native.Nat.{ℕ}
 use mathlib.Core.Path.{sym, _∙_}
 use native.Mathlib.Omega.{arith}
-use Rattle.runs.proofs.Turns.{leaves-as}
+use Rattle.leaves.proofs.Left.{leaves-as}
 use Rattle.runs.proofs.Parts.{wide, long}
 use Rattle.runs.proofs.Parts.{leaf-small, leaf-from}
 use Rattle.runs.proofs.+ite+par+rounds+seq+term.Proof.Measures.{term-at, term-calls}

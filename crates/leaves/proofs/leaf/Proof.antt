@@ -5,10 +5,10 @@ use mathlib.Core.List.{_∷_}
 use native.Mathlib.Omega.{arith}
 use lib.ListN.{replicate}
 use Rattle.meaning.specs.Cycles.{leafWord}
-use Rattle.runs.proofs.Turns.{leaf-stopped, leaf-ended}
+use Rattle.leaves.proofs.Left.{leaf-stopped, leaf-ended}
 use borrow.Author.Needs.{needs}
-use Rattle.runs.proofs.leaves.leaf.Statement.{statement}
-use Rattle.runs.proofs.leaves.leaf.Tie as tie
+use Rattle.leaves.proofs.leaf.Statement.{statement}
+use Rattle.leaves.proofs.leaf.Tie as tie
 
 returns : tie.Need-returns
 returns c =

@@ -4,10 +4,10 @@ use mathlib.Core.Path.{_≡_}
 use Prim.Native.Nat.{_-_, _≤_}
 use native.Mathlib.Omega.{arith}
 use lib.ListN.{length, take, length-set}
-use Rattle.runs.specs.Runs.{sideBySide}
-use Rattle.runs.proofs.Joined.{fill-start, fill-more, fill-whole}
-use Rattle.runs.proofs.leaves.join.Statement.{statement}
-use Rattle.runs.proofs.leaves.join.Tie as tie
+use Rattle.leaves.specs.Results.{sideBySide}
+use Rattle.leaves.proofs.Joined.{fill-start, fill-more, fill-whole}
+use Rattle.leaves.proofs.join.Statement.{statement}
+use Rattle.leaves.proofs.join.Tie as tie
 
 abbrev Inv-loop : tie.InvT-loop
 Inv-loop words₀ n others i₀ words i =

@@ -8,7 +8,7 @@ use native.Mathlib.Omega.{arith}
 use lib.ListN.{length, getD, take, set, replicate, length-append}
 use lib.Seq.{take-suc, take-suc-set, take-all, take-at, take-append-add, length-take-le, getD-append-add, getD-take}
 use Rattle.meaning.specs.Choices.{padded}
-use Rattle.runs.specs.Runs.{sideBySide}
+use Rattle.leaves.specs.Results.{sideBySide}
 
 -- Filling: the first i words are those of the answer.
 module _ (x y : List ℕ) (n : ℕ) (lx : length x ≡ 16) (ly : length y ≡ 16) (h : n ≤ 16) where

@@ -5,7 +5,7 @@ ghost use mathlib.Core.Path.{_≡_};
 ghost use Prim.Native.Nat.{_<_, _≤_, max};
 ghost use lib.ListN.{length};
 ghost use Rattle.meaning.specs.Cycles.{leafWord, leafRun};
-ghost use Rattle.runs.specs.Runs.{runFrom, Leaves, sideBySide};
+ghost use Rattle.leaves.specs.Results.{runFrom, Leaves, sideBySide};
 
 // The word of a leaf: a Const's own, the one that a Field names, or an operation's.
 fn word(width: u32, kind: u32, b: u32, x: &[u32; 16]) -> u32

@@ -1,8 +1,8 @@
 -- Proof: `leaves::word` meets its contract: each branch is the one that the kind's tests take. Assumes nothing.
 use borrow.Author.Tests.{lt-ltb, le-ltb, eq-eqb, ne-eqb}
 use borrow.Author.Needs.{needs}
-use Rattle.runs.proofs.leaves.word.Statement.{statement}
-use Rattle.runs.proofs.leaves.word.Tie as tie
+use Rattle.leaves.proofs.word.Statement.{statement}
+use Rattle.leaves.proofs.word.Tie as tie
 
 returns : tie.Need-returns
 returns c = rw (lt-ltb _ _ (c .before .if1 .taken), eq-eqb _ _ (c .if2 .taken))

@@ -1,0 +1,2 @@
+-- What a run within a budget leaves. Definitions only.
+pub mod Results
