@@ -2,7 +2,7 @@
 -- Assumes nothing.
 use Prim.Native.Nat.{ℕ, zero, suc, _+_, _≤_, _<_}
 use mathlib.Core.Path.{_≡_, refl, sym, ap, _∙_}
-use mathlib.Core.List.{List, [], _∷_, _++_}
+use mathlib.Core.List.{List, [], _∷_, _++_, append-assoc}
 use native.Mathlib.Nat.{add-zero, zero-add}
 use native.Mathlib.Numerals.{add-one}
 use native.Mathlib.Omega.{arith}
@@ -24,6 +24,10 @@ then {l} {v} {u} {a} {b} {i} {j} {k} p q = record {
   holds = q .holds ∙ ap (λ (x : List ℕ). sets x j b) (p .holds) ∙ ap (λ (n : ℕ). sets (sets l i a) n b) (p .next-is) ∙ sym (sets-append
       a b l i);
 }
+
+-- A piece, and two more that were written as one.
+pub then-two : (b c : List ℕ) {l v u a : List ℕ} {i j k : ℕ} → Wrote l i a j v → Wrote v j (b ++ c) k u → Wrote l i ((a ++ b) ++ c) k u
+then-two b c {a = a} p q = rw (append-assoc a b c) (then p q)
 
 -- A byte, where the buffer holds it and where not.
 pub byte-in : (l : List ℕ) (i c : ℕ) → Wrote l i (c ∷ []) (i + 1) (set l i c)

@@ -5,10 +5,11 @@ use spelling::blanks_of;
 use spelling::fill;
 ghost use mathlib.Core.Path.{_≡_};
 ghost use mathlib.Core.Bool.{Bool, true, false};
+ghost use mathlib.Core.List.{_++_};
 ghost use Prim.Native.Nat.{ℕ, _+_, _*_, _^_, _≤_, _<_};
 ghost use lib.ListN.{length};
 ghost use Rattle.circuit.specs.Cells.{kindAt, cellCount};
-ghost use Rattle.spelling.specs.Pieces.{bytes, filled, Wrote};
+ghost use Rattle.spelling.specs.Pieces.{bytes, blanks, filled, Wrote};
 ghost use Rattle.verilog.specs.Lines.{declaration, register, clockLine};
 ghost use Rattle.verilog.specs.Texts.{
   eachOf,
@@ -57,6 +58,34 @@ fn row(
         j += 1;
     }
     next
+}
+
+// Writes a line of no port's own: X is the wire x.
+fn line(text: &mut [u8], at: usize, template: &[u8], width: u32, x: u32) -> usize
+    requires { ⌜ (at < 2 ^ 32) × (length (now template) ≤ 64) × (0 < width) ⌝ }
+    ensures { λ r. ⌜ Wrote (now (text .entry)) at (filled (blanks width 0 x) (now (template .entry))) r (now (text .exit)) ⌝ }
+    ensures { λ r. ⌜ r ≤ at + 640 ⌝ }
+{
+    fill(text, at, template, blanks_of(width, 0, x))
+}
+
+// Writes such a line, and then a template once for each of count ports.
+fn group(
+    text: &mut [u8],
+    at: usize,
+    first: &[u8],
+    x: u32,
+    template: &[u8],
+    width: u32,
+    count: u32,
+    outs: &[u32; 16],
+) -> usize
+    requires { ⌜ (at + 640 < 2 ^ 31) × (length (now first) ≤ 64) × (length (now template) ≤ 64) × (0 < width) × (count ≤ 16) ⌝ }
+    ensures { λ r. ⌜ Wrote (now (text .entry)) at (filled (blanks width 0 x) (now (first .entry)) ++ eachOf width (now (outs .entry)) (now (template .entry)) count) r (now (text .exit)) ⌝ }
+    ensures { λ r. ⌜ r ≤ at + 10880 ⌝ }
+{
+    let next = line(text, at, first, width, x);
+    row(text, next, template, width, count, outs)
 }
 
 // Writes the declaration of a cell of this kind; what is no kind has none.
@@ -137,12 +166,13 @@ fn names(text: &mut [u8], width: u32, i: u32, o: u32, outs: &[u32; 16]) -> usize
     ensures { λ r. ⌜ Wrote (now (text .entry)) 0 (namesOf width i o (now (outs .entry))) r (now (text .exit)) ⌝ }
     ensures { λ r. ⌜ r ≤ 22400 ⌝ }
 {
-    let none = blanks_of(width, 0, 0);
-    let at = fill(text, 0, b"module f (clk,load", none);
-    let at = row(text, at, b",inpN", width, i, outs);
-    let at = fill(text, at, b",done", none);
-    let at = row(text, at, b",outN", width, o, outs);
-    fill(text, at, b");\n", none)
+    let bits = b"module f (clk,load";
+    let word = b",inpN";
+    let at = group(text, 0, bits, 0, word, width, i, outs);
+    let bits = b",done";
+    let word = b",outN";
+    let at = group(text, at, bits, 0, word, width, o, outs);
+    line(text, at, b");\n", width, 0)
 }
 
 // Writes a line for the ports that are bits, and one for each word.
@@ -151,11 +181,12 @@ fn port_lines(text: &mut [u8], at: usize, width: u32, i: u32, o: u32, outs: &[u3
     ensures { λ r. ⌜ Wrote (now (text .entry)) at (portLines width i o (now (outs .entry))) r (now (text .exit)) ⌝ }
     ensures { λ r. ⌜ r ≤ at + 21760 ⌝ }
 {
-    let none = blanks_of(width, 0, 0);
-    let at = fill(text, at, b"  input clk,load;\n", none);
-    let at = row(text, at, b"  input [T:0] inpN;\n", width, i, outs);
-    let at = fill(text, at, b"  output done;\n", none);
-    row(text, at, b"  output [T:0] outN;\n", width, o, outs)
+    let bits = b"  input clk,load;\n";
+    let word = b"  input [T:0] inpN;\n";
+    let at = group(text, at, bits, 0, word, width, i, outs);
+    let bits = b"  output done;\n";
+    let word = b"  output [T:0] outN;\n";
+    group(text, at, bits, 0, word, width, o, outs)
 }
 
 // Writes what done and the outputs are, and the end.
@@ -164,14 +195,10 @@ fn ending(text: &mut [u8], at: usize, width: u32, o: u32, done: u32, outs: &[u32
     ensures { λ r. ⌜ Wrote (now (text .entry)) at (endingOf width o done (now (outs .entry))) r (now (text .exit)) ⌝ }
     ensures { λ r. ⌜ r ≤ at + 11520 ⌝ }
 {
-    let at = fill(
-        text,
-        at,
-        b"  assign done = wX;\n",
-        blanks_of(width, 0, done),
-    );
-    let at = row(text, at, b"  assign outN = wX;\n", width, o, outs);
-    fill(text, at, b"endmodule\n", blanks_of(width, 0, 0))
+    let bit = b"  assign done = wX;\n";
+    let word = b"  assign outN = wX;\n";
+    let at = group(text, at, bit, done, word, width, o, outs);
+    line(text, at, b"endmodule\n", width, 0)
 }
 
 // Writes the whole text.
