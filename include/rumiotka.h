@@ -9,7 +9,7 @@
  *   - What a call writes (the arrays that are not const) overlaps nothing else that it is given,
  *     and no other thread uses it meanwhile.
  *   - There is stack for the call, of which no proof speaks. The deepest tables that are accepted
- *     take rumiotka_compile 320 KB, rumiotka_evaluate 64 KB, the others less than 8 KB (measured).
+ *     take rumiotka_compile 112 KB, rumiotka_evaluate 64 KB, the others less than 8 KB (measured).
  * Nothing more is asked: whatever the numbers are, each call ends and writes its answer. The
  * functions keep nothing between calls.
  *

@@ -24,31 +24,31 @@ use Rattle.circuit.specs.Compiling.{inputCells, front, mainBlock, wholeCells}
 use Rattle.circuit.specs.Compiling.{compileVerdict, emitted, notEmitted, compiledOf, netlistAfter}
 use Rattle.circuit.proofs.Lengths.{wires-length, inputs-length}
 use Rattle.circuit.proofs.Sized.{netlist-length}
-use Rattle.compiler.specs.declared.leaves.Made.{Made}
-use Rattle.compiler.specs.Writing.{written}
+use Rattle.pieces.specs.declared.leaves.Made.{Made}
+use Rattle.pieces.specs.Writing.{written}
 use Rattle.compiler.specs.Building.{Known, blockOf, Emits}
-use Rattle.compiler.proofs.Placing.{plus-after, placed-within, then, before}
-use Rattle.compiler.proofs.Turns.{padded-first}
+use Rattle.pieces.proofs.Placing.{plus-after, placed-within, then, before}
+use Rattle.pieces.proofs.Turns.{padded-first}
 use Rattle.compiler.proofs.Plans.{indexed, takes-at, takes-few}
 
 -- The main block on the input wires: n and m are the counts as the code has them.
 module _ (T : Term) (n m : ℕ) (n-is : n ≡ ins T) (m-is : m ≡ outs T) (words : List ℕ) (W : words ≡ padded 16 (wiresFrom 1 n))
-    (l v1 v2 v3 v4 : List ℕ) (r : Made) where
+    (l v1 v2 v3 v4 row : List ℕ) (r : Made) where
   wires-are : take (ins T) words ≡ wiresFrom 1 (ins T)
   wires-are = ap (take (ins T)) (W ∙ rw n-is refl) ∙ padded-first 16 (ins T) (wiresFrom 1 (ins T)) (wires-length (ins T) 1)
 
   main-is : blockOf T (n + 6) (n + 5) words ≡ mainBlock T
   main-is = rw (wires-are, n-is, plus-after 6 (ins T), plus-after 5 (ins T)) refl
 
-  pub whole-answer : Emits T (n + 6) (n + 5) words v2 v3 r →
-      record { emission = emission.Emitted (r .next) n m (r .done); wires = r .outs } ≡ emitted T
+  pub whole-answer : Emits T (n + 6) (n + 5) words v2 v3 row r →
+      record { emission = emission.Emitted (r .next) n m (r .done); wires = row } ≡ emitted T
   whole-answer e =
       let d : r .done ≡ mainBlock T .done = e .done ∙ ap (λ (B : Block). B .done) main-is in
-      let o : r .outs ≡ padded 16 (mainBlock T .outs) = e .outs ∙ ap (λ (B : Block). padded 16 (B .outs)) main-is in
+      let o : row ≡ padded 16 (mainBlock T .outs) = e .outs ∙ ap (λ (B : Block). padded 16 (B .outs)) main-is in
       let c : r .next ≡ wholeSize T = omega (arith, e .next) in
       rw (d, o, c, n-is, m-is) refl
 
-  pub whole-written : Emits T (n + 6) (n + 5) words v2 v3 r → v1 ≡ written l 0 (loadCell ∷ []) → v2 ≡ written v1 1 (inputCells 0 n) →
+  pub whole-written : Emits T (n + 6) (n + 5) words v2 v3 row r → v1 ≡ written l 0 (loadCell ∷ []) → v2 ≡ written v1 1 (inputCells 0 n) →
       v4 ≡ written v3 (n + 1) (front n (r .done)) → v4 ≡ written l 0 (wholeCells T)
   whole-written e e1 e2 e4 =
       let D = mainBlock T .done in

@@ -15,13 +15,13 @@ use Rattle.circuit.specs.Pieces.{_after_, Block, Emitter, wiresFrom, keeps, kep
 use Rattle.circuit.specs.Blocks.{iteBlock, emit}
 use Rattle.circuit.proofs.Lengths.{keeps-length, kept-length}
 use Rattle.circuit.proofs.Sized.{gives, sized}
-use Rattle.compiler.specs.declared.leaves.Made.{Made}
-use Rattle.compiler.specs.declared.blocks.Forked as declared
-use Rattle.compiler.specs.Writing.{written, gatesOn}
+use Rattle.pieces.specs.declared.leaves.Made.{Made}
+use Rattle.pieces.specs.declared.seams.Forked as declared
+use Rattle.pieces.specs.Writing.{written, gatesOn}
+use Rattle.pieces.specs.Seams.{mergeCells}
 use Rattle.compiler.specs.Building.{blockOf, Emits, Fork, forkOf, forkCells, Forks}
-use Rattle.compiler.proofs.Placing.{plus-after, then}
-use Rattle.compiler.proofs.Groups.{two}
-use Rattle.compiler.proofs.Turns.{padded-first}
+use Rattle.pieces.proofs.Placing.{plus-after, then}
+use Rattle.pieces.proofs.Turns.{padded-first}
 use Rattle.compiler.proofs.Pairs.{follows, first-long}
 
 four-lists : (a b c d cs : List Cell) → (a ++ (b ++ (c ++ d))) ++ cs ≡ a ++ (b ++ (c ++ (d ++ cs)))
@@ -86,16 +86,16 @@ module _ {w : ℕ} {e f g : Term} (he : Well w e) (hf : Well w f) (hg : Well w g
 
 -- A fork, from what its calls left.
 module _ {w : ℕ} {e f g : Term} (he : Well w e) (hf : Well w f) (hg : Well w g) (same-f : ins e ≡ ins f) (same-g : ins e ≡ ins g)
-    (n s : ℕ) (live kw : List ℕ) (live-long : length live ≡ 16) (kept-long : length kw ≡ 16) (l v1 v2 v3 v4 : List ℕ) (a b c : Made)
-    (A : Emits e n s live l v1 a) (R : v2 ≡ written v1 (a .next) (gatesOn (a .next) (a .done) (at (a .outs) 0)))
-    (B : Emits f (a .next + 7) (a .next + 5) kw v2 v3 b) (C : Emits g (b .next) (a .next + 6) kw v3 v4 c) where
+    (n s : ℕ) (live kw : List ℕ) (live-long : length live ≡ 16) (kept-long : length kw ≡ 16) (l v1 v2 v3 v4 w1 w2 w3 : List ℕ)
+    (a b c : Made) (A : Emits e n s live l v1 w1 a) (R : v2 ≡ written v1 (a .next) (gatesOn (a .next) (a .done) (at w1 0)))
+    (B : Emits f (a .next + 7) (a .next + 5) kw v2 v3 w2 b) (C : Emits g (b .next) (a .next + 6) kw v3 v4 w3 c) where
   abbrev K : Fork
   K = forkOf (emit e) (emit f) (emit g) n s (take (ins e) live) (take (ins e) kw)
 
   gate-is : a .next ≡ K .gate
   gate-is = follows he n s live live-long A
 
-  word-is : at (a .outs) 0 ≡ at (K .test .outs) 0
+  word-is : at w1 0 ≡ at (K .test .outs) 0
   word-is = ap (λ (ws : List ℕ). at ws 0) (A .outs) ∙ padded-at 16 (K .test .outs) 0
 
   yes-is : blockOf f (a .next + 7) (a .next + 5) kw ≡ K .yes
@@ -110,23 +110,16 @@ module _ {w : ℕ} {e f g : Term} (he : Well w e) (hf : Well w f) (hg : Well w g
   next-is : c .next ≡ K .next
   next-is = follows hg (b .next) (a .next + 6) kw kept-long C ∙ rw (no-is, middle-is) refl
 
-  pub forks : Forks K n l v4 (record {
-    gate = a .next;
-    next = c .next;
-    tested = a .done;
-    left = b .done;
-    again = c .done;
-    ends = b .outs;
-    feeds = c .outs;
-  })
+  pub forks :
+      Forks K n l v4 w2 w3 (record { gate = a .next; next = c .next; tested = a .done; left = b .done; again = c .done })
   forks = record {
     gate = gate-is;
     next = next-is;
     tested = A .done;
     left = B .done ∙ ap (λ (F : Block). F .done) yes-is;
     again = C .done ∙ ap (λ (G : Block). G .done) no-is;
-    ends = B .outs ∙ ap (λ (F : Block). padded 16 (F .outs)) yes-is;
-    feeds = C .outs ∙ ap (λ (G : Block). padded 16 (G .outs)) no-is;
+    yes = B .outs ∙ ap (λ (F : Block). padded 16 (F .outs)) yes-is;
+    no = C .outs ∙ ap (λ (G : Block). padded 16 (G .outs)) no-is;
     net = fork-written (emit e) (emit f) (emit g) n s (take (ins e) live) (take (ins e) kw) l v1 v2 v3 v4 (A .net)
         (R ∙ rw (gate-is, A .done, word-is) refl)
         (B .net ∙ rw (yes-is, gate-is, plus-after 7 (K .gate)) refl)
@@ -134,15 +127,16 @@ module _ {w : ℕ} {e f g : Term} (he : Well w e) (hf : Well w f) (hg : Well w g
   }
 
 -- What a fork's answer tells its callers, by the sizes of its parts.
-pub record Forked (e f g n : ℕ) (r : declared.Forked) : Type 0 where
+pub record Forked (e f g n : ℕ) (ends feeds : List ℕ) (r : declared.Forked) : Type 0 where
   pub gate : r .gate ≡ n + e
   pub next : r .next ≡ n + (e + 7 + f + g)
-  pub ends : length (r .ends) ≡ 16
-  pub feeds : length (r .feeds) ≡ 16
+  pub yes : length ends ≡ 16
+  pub no : length feeds ≡ 16
 
 module _ {w : ℕ} {e f g : Term} (he : Well w e) (hf : Well w f) (hg : Well w g) (same-f : ins e ≡ ins f) (same-g : ins e ≡ ins g)
-    (n s : ℕ) (live kw : List ℕ) (live-long : length live ≡ 16) (kept-long : length kw ≡ 16) {old new : List ℕ} {r : declared.Forked}
-    (B : Forks (forkOf (emit e) (emit f) (emit g) n s (take (ins e) live) (take (ins e) kw)) n old new r) where
+    (n s : ℕ) (live kw : List ℕ) (live-long : length live ≡ 16) (kept-long : length kw ≡ 16) {old new ends feeds : List ℕ}
+    {r : declared.Forked}
+    (B : Forks (forkOf (emit e) (emit f) (emit g) n s (take (ins e) live) (take (ins e) kw)) n old new ends feeds r) where
   abbrev lives : List ℕ
   lives = take (ins e) live
 
@@ -158,15 +152,15 @@ module _ {w : ℕ} {e f g : Term} (he : Well w e) (hf : Well w f) (hg : Well w g
   helds-long : length helds ≡ ins e
   helds-long = first-long he n s kw kept-long
 
-  pub fork-answer : Forked (size e) (size f) (size g) n r
+  pub fork-answer : Forked (size e) (size f) (size g) n ends feeds r
   fork-answer = record {
     gate = B .gate ∙ fork-gate he hf hg same-f same-g n s lives helds lives-long helds-long;
     next = B .next ∙ fork-next he hf hg same-f same-g n s lives helds lives-long helds-long;
-    ends =
-        ap length (B .ends) ∙ padded-length 16 (blocks .yes .outs)
+    yes =
+        ap length (B .yes) ∙ padded-length 16 (blocks .yes .outs)
         (omega (arith, yes-outs he hf hg same-f same-g n s lives helds lives-long helds-long, few-outs hf));
-    feeds =
-        ap length (B .feeds) ∙ padded-length 16 (blocks .no .outs)
+    no =
+        ap length (B .no) ∙ padded-length 16 (blocks .no .outs)
         (omega (arith, no-outs he hf hg same-f same-g n s lives helds lives-long helds-long, few-outs hg));
   }
 
@@ -187,16 +181,14 @@ module _ (e f g : Emitter) (b s : ℕ) (xs : List ℕ) where
       (then v1 n (forkCells iteFork) iteLast (iteFork .next) (fork-ends e f g n s xs (kept b xs)) v2 v3 e2 e3)
       ∙ ap (λ (cs : List Cell). written l b (keeps b s xs ++ cs)) (fork-behind e f g n s xs (kept b xs) iteLast)
 
--- Ite, from what its calls left: i and o are the counts as the code has them.
+-- Ite, from what its calls left: i and o are the counts as the code has them, and a is its answer.
 module _ {w : ℕ} {e f g : Term} (he : Well w e) (hf : Well w f) (hg : Well w g) (same-f : ins e ≡ ins f) (same-g : ins e ≡ ins g)
-    (same-outs : outs f ≡ outs g) (p s : ℕ) (words : List ℕ) (long : length words ≡ 16) (l v1 v2 v3 v4 v5 kw row : List ℕ)
-    (r : declared.Forked) (i o n : ℕ) (i-is : i ≡ ins e) (o-is : o ≡ outs f) (n-is : n ≡ p + 2 * i)
+    (same-outs : outs f ≡ outs g) (p s : ℕ) (words : List ℕ) (long : length words ≡ 16) (l v1 v2 v3 kw ends feeds row : List ℕ)
+    (r : declared.Forked) (a : Made) (i o n : ℕ) (i-is : i ≡ ins e) (o-is : o ≡ outs f) (n-is : n ≡ p + 2 * i)
     (K1 : kw ≡ padded 16 (kept p (take i words))) (K2 : v1 ≡ written l p (keeps p s (take i words)))
-    (B : Forks (forkOf (emit e) (emit f) (emit g) n s (take (ins e) words) (take (ins e) kw)) n v1 v2 r)
-    (D1 : v3 ≡ written v2 (r .next) (andCell (r .tested) (r .left) ∷ []))
-    (D2 : v4 ≡ written v3 (r .next + 1) (andCell (r .next) (r .again) ∷ []))
-    (C1 : row ≡ padded 16 (wiresFrom (r .next + 2) o))
-    (C2 : v5 ≡ written v4 (r .next + 2) (choices (r .gate + 3) (take o (r .ends)) (take o (r .feeds)))) where
+    (B : Forks (forkOf (emit e) (emit f) (emit g) n s (take (ins e) words) (take (ins e) kw)) n v1 v2 ends feeds r)
+    (A : a ≡ record { next = r .next + 2 + o; done = r .next + 1 }) (C1 : row ≡ padded 16 (wiresFrom (r .next + 2) o))
+    (C2 : v3 ≡ written v2 (r .next) (mergeCells r (take o ends) (take o feeds))) where
   abbrev xs : List ℕ
   xs = take (ins e) words
 
@@ -215,36 +207,34 @@ module _ {w : ℕ} {e f g : Term} (he : Well w e) (hf : Well w f) (hg : Well w g
   place-is : n ≡ p + length (keeps p s xs)
   place-is = omega (arith, keeps-length xs p s, xs-long)
 
-  forked : Forks I (p + length (keeps p s xs)) v1 v2 r
+  forked : Forks I (p + length (keeps p s xs)) v1 v2 ends feeds r
   forked = rw (kept-is, place-is) at B
 
-  ends-are : take o (r .ends) ≡ I .yes .outs
+  ends-are : take o ends ≡ I .yes .outs
   ends-are =
-      ap (take o) (forked .ends) ∙ padded-first 16 o (I .yes .outs)
+      ap (take o) (forked .yes) ∙ padded-first 16 o (I .yes .outs)
       (yes-outs he hf hg same-f same-g (p + length (keeps p s xs)) s xs (kept p xs) xs-long ks-long ∙ sym o-is)
 
-  feeds-are : take o (r .feeds) ≡ I .no .outs
+  feeds-are : take o feeds ≡ I .no .outs
   feeds-are =
-      ap (take o) (forked .feeds) ∙ padded-first 16 o (I .no .outs)
+      ap (take o) (forked .no) ∙ padded-first 16 o (I .no .outs)
       (no-outs he hf hg same-f same-g (p + length (keeps p s xs)) s xs (kept p xs) xs-long ks-long ∙ sym (o-is ∙ same-outs))
 
-  last-is : v5 ≡ written v2 (I .next) (iteLast (emit e) (emit f) (emit g) p s xs)
+  last-is : v3 ≡ written v2 (I .next) (iteLast (emit e) (emit f) (emit g) p s xs)
   last-is =
-      then v2 (r .next) (andCell (r .tested) (r .left) ∷ andCell (r .next) (r .again) ∷ [])
-      (choices (r .gate + 3) (take o (r .ends)) (take o (r .feeds))) (r .next + 2) (omega arith) v4 v5
-      (two (andCell (r .tested) (r .left)) (andCell (r .next) (r .again)) v2 v3 v4 (r .next) (r .next + 1) refl D1 D2) C2
-      ∙ rw (ends-are, feeds-are, forked .next, forked .tested, forked .left, forked .again, forked .gate, plus-after 3 (I .gate)) refl
+      C2 ∙ rw (ends-are, feeds-are, forked .next, forked .tested, forked .left, forked .again, forked .gate, plus-after 3 (I .gate)) refl
 
-  pub ite-emits : Emits (ite e f g) p s words l v5 (record { next = r .next + 2 + o; done = r .next + 1; outs = row })
+  pub ite-emits : Emits (ite e f g) p s words l v3 row a
   ite-emits = record {
     next = omega (
       arith,
+      ap (λ (m : Made). m .next) A,
       forked .next,
       fork-next he hf hg same-f same-g (p + length (keeps p s xs)) s xs (kept p xs) xs-long ks-long,
       keeps-length xs p s,
       xs-long,
     );
-    done = plus-after 1 (r .next) ∙ ap (λ (m : ℕ). 1 after m) (forked .next);
+    done = ap (λ (m : Made). m .done) A ∙ plus-after 1 (r .next) ∙ ap (λ (m : ℕ). 1 after m) (forked .next);
     outs =
         C1
         ∙ rw (
@@ -253,5 +243,5 @@ module _ {w : ℕ} {e f g : Term} (he : Well w e) (hf : Well w f) (hg : Well w g
           o-is,
           ← yes-outs he hf hg same-f same-g (p + length (keeps p s xs)) s xs (kept p xs) xs-long ks-long,
         ) refl;
-    net = ite-cells (emit e) (emit f) (emit g) p s xs l v1 v2 v5 (K2 ∙ rw i-is refl) (forked .net) last-is;
+    net = ite-cells (emit e) (emit f) (emit g) p s xs l v1 v2 v3 (K2 ∙ rw i-is refl) (forked .net) last-is;
   }

@@ -1,8 +1,5 @@
 -- What is shown of the compiler's parts.
-pub mod Placing
-pub mod Groups
-pub mod Turns
-pub mod Operations
+pub mod Leaves
 pub mod Pairs
 pub mod Forking
 pub mod Loops

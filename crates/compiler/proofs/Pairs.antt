@@ -16,11 +16,11 @@ use Rattle.circuit.specs.Pieces.{_after_, Block, Emitter, rise}
 use Rattle.circuit.specs.Blocks.{seqBlock, parBlock, emit}
 use Rattle.circuit.proofs.Places.{PairPlaces, seqPlaces, parPlaces}
 use Rattle.circuit.proofs.Sized.{gives, sized}
-use Rattle.compiler.specs.declared.leaves.Made.{Made}
-use Rattle.compiler.specs.Writing.{placed, written}
+use Rattle.pieces.specs.declared.leaves.Made.{Made}
+use Rattle.pieces.specs.Writing.{placed, written}
 use Rattle.compiler.specs.Building.{blockOf, Emits}
-use Rattle.compiler.proofs.Placing.{plus-after, then}
-use Rattle.compiler.proofs.Turns.{padded-first, padded-join}
+use Rattle.pieces.proofs.Placing.{plus-after, then}
+use Rattle.pieces.proofs.Turns.{padded-first, padded-join}
 
 -- A block on 16 wires has the cells and outputs that are counted.
 module _ {w : ℕ} {T : Term} (h : Well w T) (p s : ℕ) (words : List ℕ) (long : length words ≡ 16) where
@@ -34,14 +34,14 @@ module _ {w : ℕ} {T : Term} (h : Well w T) (p s : ℕ) (words : List ℕ) (lon
   block-outs = gives h p s (take (ins T) words) first-long
 
   -- Where the next block stands, and what it is handed.
-  module _ {old new : List ℕ} {r : Made} (e : Emits T p s words old new r) where
+  module _ {old new row : List ℕ} {r : Made} (e : Emits T p s words old new row r) where
     pub follows : r .next ≡ p + length (blockOf T p s words .cells)
     follows = e .next ∙ ap (λ (n : ℕ). p + n) (sym block-cells)
 
-    pub handed : (n : ℕ) → outs T ≡ n → take n (r .outs) ≡ blockOf T p s words .outs
+    pub handed : (n : ℕ) → outs T ≡ n → take n row ≡ blockOf T p s words .outs
     handed n q = ap (take n) (e .outs) ∙ padded-first 16 n (blockOf T p s words .outs) (block-outs ∙ q)
 
-    pub handed-long : length (r .outs) ≡ 16
+    pub handed-long : length row ≡ 16
     handed-long = ap length (e .outs) ∙ padded-length 16 (blockOf T p s words .outs) (omega (arith, block-outs, few-outs h))
 
 -- Seq, in the definition's own terms.
@@ -72,23 +72,24 @@ module _ (f g : Emitter) (b s : ℕ) (xs : List ℕ) where
 
 -- Seq, from what its calls left.
 module _ {w : ℕ} {f g : Term} (hf : Well w f) (hg : Well w g) (meet : outs f ≡ ins g) (p s : ℕ) (words : List ℕ) (long : length words ≡ 16)
-    (l v1 v2 v3 v4 : List ℕ) (a b : Made) (A : Emits f p s words l v1 a) (R : v2 ≡ written v1 (a .next) (rise (a .next) (a .done)))
-    (B : Emits g (a .next + 3) (a .next + 2) (a .outs) v2 v3 b) (D : v4 ≡ written v3 (b .next) (andCell (a .done) (b .done) ∷ [])) where
+    (l v1 v2 v3 v4 w1 w2 : List ℕ) (a b : Made) (A : Emits f p s words l v1 w1 a)
+    (R : v2 ≡ written v1 (a .next) (rise (a .next) (a .done))) (B : Emits g (a .next + 3) (a .next + 2) w1 v2 v3 w2 b)
+    (D : v4 ≡ written v3 (b .next) (andCell (a .done) (b .done) ∷ [])) where
   abbrev P : PairPlaces
   P = seqPlaces (emit f) (emit g) p s (take (ins f) words)
 
   mid : a .next ≡ P .p
   mid = follows hf p s words long A
 
-  second : blockOf g (a .next + 3) (a .next + 2) (a .outs) ≡ P .G
+  second : blockOf g (a .next + 3) (a .next + 2) w1 ≡ P .G
   second = rw (mid, handed hf p s words long A (ins g) meet, plus-after 3 (P .p), plus-after 2 (P .p)) refl
 
   end : b .next ≡ P .r
   end =
-      follows hg (a .next + 3) (a .next + 2) (a .outs) (handed-long hf p s words long A) B
+      follows hg (a .next + 3) (a .next + 2) w1 (handed-long hf p s words long A) B
       ∙ rw (second, mid, plus-after 3 (P .p)) refl
 
-  pub seq-emits : Emits (seq f g) p s words l v4 (record { next = b .next + 1; done = b .next; outs = b .outs })
+  pub seq-emits : Emits (seq f g) p s words l v4 w2 (record { next = b .next + 1; done = b .next })
   seq-emits = record {
     next = omega (arith, A .next, B .next);
     done = end;
@@ -99,9 +100,9 @@ module _ {w : ℕ} {f g : Term} (hf : Well w f) (hg : Well w g) (meet : outs f �
 
 -- Par, from what its calls left.
 module _ {w : ℕ} {f g : Term} (hf : Well w f) (hg : Well w g) (same : ins f ≡ ins g) (few : outs f + outs g ≤ 16) (p s : ℕ)
-    (words : List ℕ) (long : length words ≡ 16) (l v1 v2 v3 : List ℕ) (a b : Made) (A : Emits f p s words l v1 a)
-    (B : Emits g (a .next) s words v1 v2 b) (D : v3 ≡ written v2 (b .next) (andCell (a .done) (b .done) ∷ [])) (row : List ℕ)
-    (J : row ≡ placed (a .outs) (outs f) (take (outs g) (b .outs))) where
+    (words : List ℕ) (long : length words ≡ 16) (l v1 v2 v3 w1 w2 row : List ℕ) (a b : Made) (A : Emits f p s words l v1 w1 a)
+    (B : Emits g (a .next) s words v1 v2 w2 b) (D : v3 ≡ written v2 (b .next) (andCell (a .done) (b .done) ∷ []))
+    (J : row ≡ placed w1 (outs f) (take (outs g) w2)) where
   abbrev Q : PairPlaces
   Q = parPlaces (emit f) (emit g) p s (take (ins f) words)
 
@@ -124,7 +125,7 @@ module _ {w : ℕ} {f g : Term} (hf : Well w f) (hg : Well w g) (same : ins f �
         ap (λ (G : Block). length (G .outs)) (sym par-second) ∙ block-outs hg (a .next) s words long,
       ))))
 
-  pub par-emits : Emits (par f g) p s words l v3 (record { next = b .next + 1; done = b .next; outs = row })
+  pub par-emits : Emits (par f g) p s words l v3 row (record { next = b .next + 1; done = b .next })
   par-emits = record {
     next = omega (arith, A .next, B .next);
     done = par-end;

@@ -15,7 +15,7 @@ use Rattle.meaning.proofs.Accepted.{Accepted, accepted}
 use Rattle.meaning.proofs.Typed.{Typed, Well, LeafFits, leaf-typed, well, ins-few, outs-few}
 use Rattle.meaning.proofs.Rows.{SeqRow, ParRow, IteRow, RecRow, LeafRow, Rows, rows}
 use Rattle.meaning.proofs.Lists.{column-at}
-use Rattle.compiler.specs.Writing.{Room}
+use Rattle.pieces.specs.Writing.{Room}
 use Rattle.compiler.specs.Building.{Known}
 
 -- Of any known term: where its numbers stand, its typing, and its counts as the arrays have them.

@@ -11,11 +11,11 @@ use Rattle.meaning.specs.Counts.{ins, outs, size, wholeSize}
 use Rattle.meaning.specs.Checks.{verdictOf, operandTree}
 use Rattle.meaning.specs.Answers.{column}
 use Rattle.circuit.specs.Cells.{Cell}
-use Rattle.circuit.specs.Pieces.{_after_, Block, Emitter, wiresFrom, gates}
+use Rattle.circuit.specs.Pieces.{_after_, Block, Emitter, gates}
 use Rattle.circuit.specs.Blocks.{emit}
-use Rattle.compiler.specs.declared.leaves.Made.{Made}
-use Rattle.compiler.specs.declared.blocks.Forked.{Forked}
-use Rattle.compiler.specs.Writing.{written, Room}
+use Rattle.pieces.specs.declared.leaves.Made.{Made}
+use Rattle.pieces.specs.declared.seams.Forked.{Forked}
+use Rattle.pieces.specs.Writing.{written, Room}
 
 -- Term k of a table that some width accepts, with the table's counts of words in and out in arrays.
 pub record Known (t is os : List ℕ) (k : ℕ) : Type 0 where
@@ -35,16 +35,12 @@ pub record Ready (t is os : List ℕ) (k : ℕ) (net : List ℕ) (p : ℕ) (word
 abbrev pub blockOf : Term → ℕ → ℕ → List ℕ → Block
 blockOf T p s words = emit T p s (take (ins T) words)
 
--- The block of T stands at p, and the answer has what follows it, its done wire, and its output wires.
-pub record Emits (T : Term) (p s : ℕ) (words old new : List ℕ) (r : Made) : Type 0 where
+-- The block of T stands at p, the row has its output wires, and the answer what follows it and its done wire.
+pub record Emits (T : Term) (p s : ℕ) (words old new row : List ℕ) (r : Made) : Type 0 where
   pub next : r .next ≡ p + size T
   pub done : r .done ≡ blockOf T p s words .done
-  pub outs : r .outs ≡ padded 16 (blockOf T p s words .outs)
+  pub outs : row ≡ padded 16 (blockOf T p s words .outs)
   pub net : new ≡ written old p (blockOf T p s words .cells)
-
--- The answer for a leaf at p, whose register is its only output.
-abbrev pub leafMade : ℕ → Made
-leafMade p = record { next = p + 4; done = p; outs = padded 16 (wiresFrom (p + 1) 1) }
 
 -- A test and its two branches, as Ite and Rec share them: e's block, its gates at `gate`, the blocks of f and g, and what follows.
 pub record Fork : Type 0 where
@@ -79,15 +75,15 @@ forkAt t k p s live kept =
     forkOf (emit (operandTree t k 1)) (emit (operandTree t k 2)) (emit (operandTree t k 3)) p s
     (take (ins (operandTree t k 1)) live) (take (ins (operandTree t k 1)) kept)
 
--- It stands at p, and the answer has its wires.
-pub record Forks (B : Fork) (p : ℕ) (old new : List ℕ) (r : Forked) : Type 0 where
+-- It stands at p, the rows have the output wires of both branches, and the answer its other wires.
+pub record Forks (B : Fork) (p : ℕ) (old new ends feeds : List ℕ) (r : Forked) : Type 0 where
   pub gate : r .gate ≡ B .gate
   pub next : r .next ≡ B .next
   pub tested : r .tested ≡ B .test .done
   pub left : r .left ≡ B .yes .done
   pub again : r .again ≡ B .no .done
-  pub ends : r .ends ≡ padded 16 (B .yes .outs)
-  pub feeds : r .feeds ≡ padded 16 (B .no .outs)
+  pub yes : ends ≡ padded 16 (B .yes .outs)
+  pub no : feeds ≡ padded 16 (B .no .outs)
   pub net : new ≡ written old p (forkCells B)
 
 -- The whole circuit of term k has room from the first cell on.

@@ -1,40 +1,29 @@
 // The block of a term, kind by kind. Document 01: "Cells", the items on the kinds.
 // Emission recurses on operands, the term number falling at each call; each use of a term is a
 // block of its own, and each cell is written once. Where a cell reads a later wire, it is written
-// after the block that drives it.
+// after the block that drives it. An array lent by the caller holds the block's input wires before
+// and its output wires after, so that a nested block takes little stack.
 //
 //     emit     goes by the kind
-//     leaf     9 and above, in `leaves`
+//     leaf     9 and above
 //     seq par  two operands
 //     ite rec  a test and two branches, which `fork` emits
-use crate::cells::ending;
-use crate::cells::gates;
-use crate::cells::put;
-use crate::cells::rise;
-use crate::leaves::Made;
-use crate::leaves::leaf;
-use crate::rows::choose;
-use crate::rows::join;
-use crate::rows::keep;
-use crate::rows::registers;
-use crate::rows::wires;
+use pieces::cells::gates;
+use pieces::cells::put;
+use pieces::cells::rise;
+use pieces::leaves::Made;
+use pieces::leaves::leaf;
+use pieces::rows::join;
+use pieces::rows::keep;
+use pieces::seams::Forked;
+use pieces::seams::feed;
+use pieces::seams::merge;
+use pieces::seams::round;
 use terms::number;
 use terms::operand;
 ghost use mathlib.Core.Path.{_≡_};
 ghost use Rattle.meaning.specs.Terms.{kindOf, tree};
 ghost use Rattle.compiler.specs.Building.{Ready, Emits, ForkReady, Forks, forkAt};
-
-// A test with two branches in the netlist: where its gates stand and what follows it; the done
-// wires of the test, of the branch left by and of the other; the output wires of both branches.
-pub struct Forked {
-    pub gate: u32,
-    pub next: u32,
-    pub tested: u32,
-    pub left: u32,
-    pub again: u32,
-    pub ends: [u32; 16],
-    pub feeds: [u32; 16],
-}
 
 // Seq: f; the rise of its done, which starts g on f's outputs; both dones.
 fn seq(
@@ -45,29 +34,24 @@ fn seq(
     netlist: &mut [u32],
     at: u32,
     start: u32,
-    words: [u32; 16],
+    words: &mut [u32; 16],
 ) -> Made
-    requires { ⌜ (Ready (now table) (now ins) (now outs) k (now netlist) at words)
+    requires { ⌜ (Ready (now table) (now ins) (now outs) k (now netlist) at (now words))
         × (kindOf (now table) k ≡ 1) ⌝ }
-    ensures { λ r. ⌜ Emits (tree (now (table .entry)) k) at start words
-        (now (netlist .entry)) (now (netlist .exit)) r ⌝ }
+    ensures { λ r. ⌜ Emits (tree (now (table .entry)) k) at start (now (words .entry))
+        (now (netlist .entry)) (now (netlist .exit)) (now (words .exit)) r ⌝ }
 {
     let f = operand(table, k, 1);
     let g = operand(table, k, 2);
     let first = emit(table, ins, outs, f, netlist, at, start, words);
     let p = first.next;
-    let ended = first.done;
-    let middle = first.outs;
-    rise(netlist, p, ended);
-    let second = emit(table, ins, outs, g, netlist, p + 3, p + 2, middle);
+    rise(netlist, p, first.done);
+    let second = emit(table, ins, outs, g, netlist, p + 3, p + 2, words);
     let q = second.next;
-    let over = second.done;
-    let results = second.outs;
-    put(netlist, q, 2, ended, over, 0);
+    put(netlist, q, 2, first.done, second.done, 0);
     Made {
         next: q + 1,
         done: q,
-        outs: results,
     }
 }
 
@@ -80,32 +64,29 @@ fn par(
     netlist: &mut [u32],
     at: u32,
     start: u32,
-    words: [u32; 16],
+    words: &mut [u32; 16],
 ) -> Made
-    requires { ⌜ (Ready (now table) (now ins) (now outs) k (now netlist) at words)
+    requires { ⌜ (Ready (now table) (now ins) (now outs) k (now netlist) at (now words))
         × (kindOf (now table) k ≡ 2) ⌝ }
-    ensures { λ r. ⌜ Emits (tree (now (table .entry)) k) at start words
-        (now (netlist .entry)) (now (netlist .exit)) r ⌝ }
+    ensures { λ r. ⌜ Emits (tree (now (table .entry)) k) at start (now (words .entry))
+        (now (netlist .entry)) (now (netlist .exit)) (now (words .exit)) r ⌝ }
 {
     let f = operand(table, k, 1);
     let g = operand(table, k, 2);
+    let mut others = *words;
     let first = emit(table, ins, outs, f, netlist, at, start, words);
-    let p = first.next;
-    let ended = first.done;
-    let left = first.outs;
-    let second = emit(table, ins, outs, g, netlist, p, start, words);
+    let second = emit(table, ins, outs, g, netlist, first.next, start, &mut others);
     let q = second.next;
-    let over = second.done;
-    let right = second.outs;
-    put(netlist, q, 2, ended, over, 0);
+    put(netlist, q, 2, first.done, second.done, 0);
+    join(words, outs[f], &others, outs[g]);
     Made {
         next: q + 1,
         done: q,
-        outs: join(left, outs[f], right, outs[g]),
     }
 }
 
-// A test and its branches: e on the live words; its gates; f and then g on the kept words.
+// A test and its branches: e on the live words; its gates; f and then g on the kept words. The
+// outputs of f are left in place of the live words, and those of g in place of the kept ones.
 fn fork(
     table: &[u32],
     ins: &[u32; 256],
@@ -114,37 +95,29 @@ fn fork(
     netlist: &mut [u32],
     at: u32,
     start: u32,
-    live: [u32; 16],
-    kept: [u32; 16],
+    live: &mut [u32; 16],
+    kept: &mut [u32; 16],
 ) -> Forked
-    requires { ⌜ ForkReady (now table) (now ins) (now outs) k (now netlist) at live kept ⌝ }
-    ensures { λ r. ⌜ Forks (forkAt (now (table .entry)) k at start live kept) at
-        (now (netlist .entry)) (now (netlist .exit)) r ⌝ }
+    requires { ⌜ ForkReady (now table) (now ins) (now outs) k (now netlist) at
+        (now live) (now kept) ⌝ }
+    ensures { λ r. ⌜ Forks (forkAt (now (table .entry)) k at start (now (live .entry)) (now (kept .entry))) at
+        (now (netlist .entry)) (now (netlist .exit)) (now (live .exit)) (now (kept .exit)) r ⌝ }
 {
     let e = operand(table, k, 1);
     let f = operand(table, k, 2);
     let g = operand(table, k, 3);
     let test = emit(table, ins, outs, e, netlist, at, start, live);
     let gate = test.next;
-    let tested = test.done;
-    let word = test.outs[0];
-    gates(netlist, gate, tested, word);
-    let yes = emit(table, ins, outs, f, netlist, gate + 7, gate + 5, kept);
-    let middle = yes.next;
-    let left = yes.done;
-    let ends = yes.outs;
-    let no = emit(table, ins, outs, g, netlist, middle, gate + 6, kept);
-    let next = no.next;
-    let again = no.done;
-    let feeds = no.outs;
+    gates(netlist, gate, test.done, live[0]);
+    *live = *kept;
+    let yes = emit(table, ins, outs, f, netlist, gate + 7, gate + 5, live);
+    let no = emit(table, ins, outs, g, netlist, yes.next, gate + 6, kept);
     Forked {
         gate: gate,
-        next: next,
-        tested: tested,
-        left: left,
-        again: again,
-        ends: ends,
-        feeds: feeds,
+        next: no.next,
+        tested: test.done,
+        left: yes.done,
+        again: no.done,
     }
 }
 
@@ -158,37 +131,32 @@ fn ite(
     netlist: &mut [u32],
     at: u32,
     start: u32,
-    words: [u32; 16],
+    words: &mut [u32; 16],
 ) -> Made
-    requires { ⌜ (Ready (now table) (now ins) (now outs) k (now netlist) at words)
+    requires { ⌜ (Ready (now table) (now ins) (now outs) k (now netlist) at (now words))
         × (kindOf (now table) k ≡ 3) ⌝ }
-    ensures { λ r. ⌜ Emits (tree (now (table .entry)) k) at start words
-        (now (netlist .entry)) (now (netlist .exit)) r ⌝ }
+    ensures { λ r. ⌜ Emits (tree (now (table .entry)) k) at start (now (words .entry))
+        (now (netlist .entry)) (now (netlist .exit)) (now (words .exit)) r ⌝ }
 {
     let n = ins[k];
-    let m = outs[k];
-    let kept = keep(netlist, at, start, words, n);
-    let both = fork(table, ins, outs, k, netlist, at + 2 * n, start, words, kept);
-    let gate = both.gate;
-    let r = both.next;
-    let tested = both.tested;
-    let left = both.left;
-    let again = both.again;
-    let yes = both.ends;
-    let no = both.feeds;
-    put(netlist, r, 2, tested, left, 0);
-    put(netlist, r + 1, 2, r, again, 0);
-    let results = choose(netlist, r + 2, gate + 3, yes, no, m);
-    Made {
-        next: r + 2 + m,
-        done: r + 1,
-        outs: results,
-    }
+    let mut others = [0u32; 16];
+    keep(netlist, at, start, words, n, &mut others);
+    let both = fork(
+        table,
+        ins,
+        outs,
+        k,
+        netlist,
+        at + 2 * n,
+        start,
+        words,
+        &mut others,
+    );
+    merge(netlist, both, words, &others, outs[k])
 }
 
-// Rec: what starts a round; the words of the round, from g's registers or the inputs; these kept;
-// the test and its branches; the ending. What reads g comes last: a register of each of g's
-// outputs, and "again", a register of g's rise.
+// Rec: a round's start and its words, kept; the test and its branches on these; the ending, and
+// what feeds g's outputs back.
 fn rec(
     table: &[u32],
     ins: &[u32; 256],
@@ -197,43 +165,29 @@ fn rec(
     netlist: &mut [u32],
     at: u32,
     start: u32,
-    words: [u32; 16],
+    words: &mut [u32; 16],
 ) -> Made
-    requires { ⌜ (Ready (now table) (now ins) (now outs) k (now netlist) at words)
+    requires { ⌜ (Ready (now table) (now ins) (now outs) k (now netlist) at (now words))
         × (kindOf (now table) k ≡ 4) ⌝ }
-    ensures { λ r. ⌜ Emits (tree (now (table .entry)) k) at start words
-        (now (netlist .entry)) (now (netlist .exit)) r ⌝ }
+    ensures { λ r. ⌜ Emits (tree (now (table .entry)) k) at start (now (words .entry))
+        (now (netlist .entry)) (now (netlist .exit)) (now (words .exit)) r ⌝ }
 {
     let n = ins[k];
-    let round = at + 1 + n;
-    put(netlist, round, 3, start, at, 0);
-    let live = choose(netlist, round + 1, at, wires(at + 1, n), words, n);
-    let kept = keep(netlist, round + 1 + n, round, live, n);
+    let mut others = [0u32; 16];
+    round(netlist, at, start, words, &mut others, n);
+    let first = at + 2 + 4 * n;
     let both = fork(
         table,
         ins,
         outs,
         k,
         netlist,
-        round + 1 + 3 * n,
-        round,
-        live,
-        kept,
+        first,
+        at + 1 + n,
+        words,
+        &mut others,
     );
-    let r = both.next;
-    let tested = both.tested;
-    let left = both.left;
-    let again = both.again;
-    let results = both.ends;
-    let feeds = both.feeds;
-    ending(netlist, r, tested, left, again);
-    registers(netlist, at + 1, feeds, n);
-    put(netlist, at, 4, r + 2, 0, 0);
-    Made {
-        next: r + 7,
-        done: r + 6,
-        outs: results,
-    }
+    feed(netlist, at, both, &others, n)
 }
 
 // The block of term k.
@@ -245,11 +199,11 @@ pub fn emit(
     netlist: &mut [u32],
     at: u32,
     start: u32,
-    words: [u32; 16],
+    words: &mut [u32; 16],
 ) -> Made
-    requires { ⌜ Ready (now table) (now ins) (now outs) k (now netlist) at words ⌝ }
-    ensures { λ r. ⌜ Emits (tree (now (table .entry)) k) at start words
-        (now (netlist .entry)) (now (netlist .exit)) r ⌝ }
+    requires { ⌜ Ready (now table) (now ins) (now outs) k (now netlist) at (now words) ⌝ }
+    ensures { λ r. ⌜ Emits (tree (now (table .entry)) k) at start (now (words .entry))
+        (now (netlist .entry)) (now (netlist .exit)) (now (words .exit)) r ⌝ }
 {
     let kind = number(table, k, 0);
     match kind {

@@ -4,22 +4,17 @@
 //
 //     compile   judges the table, then the memory, then writes
 //     whole     load, the inputs, the main block, and in front of that what reads its done wire
-//     blocks    the block of a term: its operands' blocks, and the cells that join them
-//     leaves    the block of a term without operands
-//     rows      a wire or a cell for each of a block's words
-//     cells     single cells, and groups of them
+//     blocks    the block of a term: its operands' blocks, and the pieces that join them
 pub mod blocks;
-pub mod cells;
-pub mod leaves;
-pub mod rows;
 
-use cells::front;
-use cells::put;
-use cells::wide;
 use circuit::Compiled;
 use circuit::Emission;
 use meaning::Verdict;
-use rows::inputs;
+use pieces::cells::front;
+use pieces::cells::put;
+use pieces::cells::wide;
+use pieces::rows::inputs;
+use pieces::rows::wires;
 ghost use mathlib.Core.Path.{_≡_};
 ghost use lib.ListN.{length};
 ghost use Rattle.meaning.specs.Terms.{tree};
@@ -31,7 +26,7 @@ ghost use Rattle.circuit.specs.Compiling.{
   compiledOf,
   netlistAfter,
 };
-ghost use Rattle.compiler.specs.Writing.{written};
+ghost use Rattle.pieces.specs.Writing.{written};
 ghost use Rattle.compiler.specs.Building.{WholeReady};
 
 // The answer to a refused call: its number and place, and no wires.
@@ -70,15 +65,16 @@ fn whole(
 {
     let n = ins[k];
     put(netlist, 0, 0, 0, 0, 0);
-    let words = inputs(netlist, n);
-    let main = blocks::emit(table, ins, outs, k, netlist, n + 6, n + 5, words);
+    inputs(netlist, n);
+    let mut words = [0u32; 16];
+    wires(&mut words, 1, n);
+    let main = blocks::emit(table, ins, outs, k, netlist, n + 6, n + 5, &mut words);
     let cells = main.next;
     let done = main.done;
-    let wires = main.outs;
     front(netlist, n, done);
     Compiled {
         emission: Emission::Emitted(cells, n, outs[k], done),
-        wires: wires,
+        wires: words,
     }
 }
 

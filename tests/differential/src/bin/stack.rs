@@ -15,7 +15,7 @@ const NAMES: [&str; 5] = ["evaluate", "compile", "power_up", "step", "write"];
 /// Gives the stack of a call, as the header states it.
 fn stated(call: &Call) -> usize {
     match call {
-        Call::Compile { .. } => 320 << 10,
+        Call::Compile { .. } => 112 << 10,
         Call::Evaluate { .. } => 64 << 10,
         _ => 8 << 10,
     }
@@ -24,7 +24,10 @@ fn stated(call: &Call) -> usize {
 /// Makes the calls of a deep table and its circuit, and of a netlist of as many cells as may be.
 fn calls(random: &mut Random) -> Vec<Call> {
     let width = random.width();
-    let table = limits::deep(random, width);
+    let table = match random.chance(10) {
+        true => limits::deepest(),
+        false => limits::deep(random, width),
+    };
     let circuit = compiled(width, &table);
     let large = foreign(random, width, 4096, 16);
     let words = random.words(width, 16);

@@ -63,6 +63,23 @@ pub fn deep(random: &mut Random, width: u32) -> Vec<u32> {
     table
 }
 
+/// Makes a table that takes the compiler the most stack: an Ite nests the deepest, so there are as
+/// many as cells allow where Par and Seq, which have fewer cells, are the rest of the 256 terms.
+pub fn deepest() -> Vec<u32> {
+    let (leaf, one, field, words) = (0, 1, 2, 11);
+    let mut table = vec![20, 0, 0, 0, 9, 1, 1, 0, 12, words, 0, 0];
+    let mut last = leaf;
+    for _ in 0..6 {
+        let row = (1..words).fold(last, |row, _| add(&mut table, [2, row, leaf, 0]));
+        last = add(&mut table, [1, row, field, 0]);
+    }
+    last = add(&mut table, [1, last, leaf, 0]);
+    while table.len() < 1024 {
+        last = add(&mut table, [3, one, last, leaf]);
+    }
+    table
+}
+
 /// Adds a term and gives its number.
 fn add(table: &mut Vec<u32>, term: [u32; 4]) -> u32 {
     table.extend(term);

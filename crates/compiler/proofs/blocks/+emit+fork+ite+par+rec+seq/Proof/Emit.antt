@@ -1,10 +1,10 @@
--- Proof: the needs of `blocks::emit`: each kind goes to its function. Mathematics in `proofs.Plans` and `proofs.Operations`.
+-- Proof: the needs of `blocks::emit`: each kind goes to its function. Mathematics in `proofs.Plans` and `proofs.Leaves`.
 -- Assumes nothing.
 use Prim.Native.Nat.{ℕ}
 use mathlib.Core.Path.{refl, sym, _∙_}
 use native.Mathlib.Omega.{arith}
 use Rattle.meaning.specs.Choices.{at}
-use Rattle.compiler.proofs.Operations.{leaf-emits}
+use Rattle.compiler.proofs.Leaves.{leaf-emits}
 use Rattle.compiler.proofs.Plans.{inside, leaf-plan}
 use Rattle.compiler.proofs.blocks.+emit+fork+ite+par+rec+seq.Proof.Members.{emit-at, emit-calls}
 use Rattle.compiler.proofs.blocks.emit.Reads as reads
@@ -17,27 +17,27 @@ number-requires t c κs =
 
 pub seq-requires : (t : ℕ) → lts.Need-seq-requires (emit-calls t) (emit-at t) reads.Post
 seq-requires t c κs =
-    let kind = c .before .before in
+    let kind = c .before .before .before in
     let s = kind .before .before .before in
-    (omega (arith, s .pre .0), (s .pre .1, sym (kind .number .ensures) ∙ c .before .match .keys1))
+    (omega (arith, s .pre .0), (s .pre .1, sym (kind .number .ensures) ∙ c .before .before .match .keys1))
 
 pub par-requires : (t : ℕ) → lts.Need-par-requires (emit-calls t) (emit-at t) reads.Post
 par-requires t c κs =
-    let kind = c .before .before in
+    let kind = c .before .before .before in
     let s = kind .before .before .before in
-    (omega (arith, s .pre .0), (s .pre .1, sym (kind .number .ensures) ∙ c .before .match .keys2))
+    (omega (arith, s .pre .0), (s .pre .1, sym (kind .number .ensures) ∙ c .before .before .match .keys2))
 
 pub ite-requires : (t : ℕ) → lts.Need-ite-requires (emit-calls t) (emit-at t) reads.Post
 ite-requires t c κs =
-    let kind = c .before .before in
+    let kind = c .before .before .before in
     let s = kind .before .before .before in
-    (omega (arith, s .pre .0), (s .pre .1, sym (kind .number .ensures) ∙ c .before .match .keys3))
+    (omega (arith, s .pre .0), (s .pre .1, sym (kind .number .ensures) ∙ c .before .before .match .keys3))
 
 pub rec-requires : (t : ℕ) → lts.Need-rec-requires (emit-calls t) (emit-at t) reads.Post
 rec-requires t c κs =
-    let kind = c .before .before in
+    let kind = c .before .before .before in
     let s = kind .before .before .before in
-    (omega (arith, s .pre .0), (s .pre .1, sym (kind .number .ensures) ∙ c .before .match .keys4))
+    (omega (arith, s .pre .0), (s .pre .1, sym (kind .number .ensures) ∙ c .before .before .match .keys4))
 
 pub number-requires-2 : (t : ℕ) → lts.Need-number-requires-2 (emit-calls t) (emit-at t) reads.Post
 number-requires-2 t c κs =
@@ -46,7 +46,7 @@ number-requires-2 t c κs =
 
 pub leaf-requires : (t : ℕ) → lts.Need-leaf-requires (emit-calls t) (emit-at t) reads.Post
 leaf-requires t c κs =
-    let value = c in
+    let value = c .before in
     let none = value .before .before in
     let kind = none .before in
     let s = kind .before .before .before in
@@ -108,7 +108,7 @@ same-length-5 t c =
 pub returns-5 : (t : ℕ) → lts.Need-returns-5 (emit-calls t) (emit-at t) reads.Post
 returns-5 t c =
     let made = c .before .before in
-    let value = made .before in
+    let value = made .before .before in
     let none = value .before .before in
     let kind = none .before in
     let s = kind .before .before .before in
@@ -117,5 +117,5 @@ returns-5 t c =
     let z =
     leaf-plan (s .pre .1 .known) (λ q. no .0 .0 .0 .1 (e ∙ q)) (λ q. no .0 .0 .1 (e ∙ q)) (λ q. no .0 .1 (e ∙ q))
     (λ q. no .1 (e ∙ q)) in
-    rw (z .decoded) (leaf-emits _ _ _ _ _ _ _ _ _ _ (z .fits) (made .leaf .ensures .0)
-    (made .leaf .ensures .1 ∙ rw (e, value .number2 .ensures) refl))
+    rw (z .decoded) (leaf-emits _ _ _ _ _ _ _ _ _ _ _ (z .fits) (made .leaf .ensures .0) (made .leaf .ensures .1)
+    (made .leaf .ensures .2 ∙ rw (e, value .number2 .ensures) refl))

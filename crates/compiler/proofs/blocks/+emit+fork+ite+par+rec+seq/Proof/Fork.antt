@@ -4,7 +4,7 @@ use mathlib.Core.Path.{_∙_}
 use native.Mathlib.Omega.{arith}
 use Rattle.meaning.specs.Terms.{tree}
 use Rattle.meaning.specs.Counts.{size}
-use Rattle.compiler.specs.Writing.{Room}
+use Rattle.pieces.specs.Writing.{Room}
 use Rattle.compiler.specs.Building.{Known}
 use Rattle.compiler.proofs.Forking.{forks}
 use Rattle.compiler.proofs.Plans.{inside, ForkPlan, fork-plan, fork-room}
@@ -48,47 +48,38 @@ operand-requires-3 t c κs =
 
 pub emit-requires : (t : ℕ) → lts.Need-emit-requires (fork-calls t) (fork-at t) reads.Post
 emit-requires t c κs =
-    let ops = c .before in
+    let ops = c .before .before in
     let z = plan t ops in
     let s = entry t ops in
     let y = room t ops in
     (omega (arith, s .pre .0), record { known = z .test .known; room = omega arith; sixteen = s .pre .1 .sixteen .0 })
 
-pub element-copy-out-word : (t : ℕ) → lts.Need-element-copy-out-word (fork-calls t) (fork-at t) reads.Post
-element-copy-out-word t c = omega arith
+pub element-copy-out-gates : (t : ℕ) → lts.Need-element-copy-out-gates (fork-calls t) (fork-at t) reads.Post
+element-copy-out-gates t c = omega arith
 
 pub gates-requires : (t : ℕ) → lts.Need-gates-requires (fork-calls t) (fork-at t) reads.Post
 gates-requires t c κs =
     let test = c .before .before .before .before in
-    let ops = test .before .before in
-    let z = plan t ops in
-    let s = entry t ops in
-    let y = room t ops in
+    let y = room t (test .before .before .before) in
     omega (arith, test .emit .ensures .next, test .emit .kept .1 .1 .1 .1 .0)
 
 pub add-emit : (t : ℕ) → lts.Need-add-emit (fork-calls t) (fork-at t) reads.Post
 add-emit t c =
-    let test = c .before .before .before .before .before .before .before .before in
-    let ops = test .before .before in
-    let z = plan t ops in
-    let s = entry t ops in
-    let y = room t ops in
-    omega (arith, test .emit .ensures .next, test .emit .kept .1 .1 .1 .1 .0)
+    let test = c .before .before .before .before .before .before .before .before .before in
+    let y = room t (test .before .before .before) in
+    omega (arith, test .emit .ensures .next)
 
 pub add-emit-2 : (t : ℕ) → lts.Need-add-emit-2 (fork-calls t) (fork-at t) reads.Post
 add-emit-2 t c =
-    let test = c .before .before .before .before .before .before .before .before in
-    let ops = test .before .before in
-    let z = plan t ops in
-    let s = entry t ops in
-    let y = room t ops in
-    omega (arith, test .emit .ensures .next, test .emit .kept .1 .1 .1 .1 .0)
+    let test = c .before .before .before .before .before .before .before .before .before in
+    let y = room t (test .before .before .before) in
+    omega (arith, test .emit .ensures .next)
 
 pub emit-requires-2 : (t : ℕ) → lts.Need-emit-requires-2 (fork-calls t) (fork-at t) reads.Post
 emit-requires-2 t c κs =
-    let gated = c .before .before .before in
+    let gated = c .before .before .before .before .before in
     let test = gated .before .before .before .before .before in
-    let ops = test .before .before in
+    let ops = test .before .before .before in
     let z = plan t ops in
     let s = entry t ops in
     let y = room t ops in (
@@ -96,25 +87,22 @@ emit-requires-2 t c κs =
       record {
         known = z .yes .known;
         room = omega (arith, test .emit .ensures .next, test .emit .kept .1 .1 .1 .1 .0, gated .gates .kept .0);
-        sixteen = omega (arith, s .pre .1 .sixteen .0, s .pre .1 .sixteen .1);
+        sixteen = s .pre .1 .sixteen .1;
       },
     )
 
 pub add-emit-3 : (t : ℕ) → lts.Need-add-emit-3 (fork-calls t) (fork-at t) reads.Post
 add-emit-3 t c =
-    let test = c .before .before .before .before .before .before .before .before .before .before .before .before .before in
-    let ops = test .before .before in
-    let z = plan t ops in
-    let s = entry t ops in
-    let y = room t ops in
-    omega (arith, test .emit .ensures .next, test .emit .kept .1 .1 .1 .1 .0)
+    let test = c .before .before .before .before .before .before .before .before .before .before .before .before .before .before in
+    let y = room t (test .before .before .before) in
+    omega (arith, test .emit .ensures .next)
 
 pub emit-requires-3 : (t : ℕ) → lts.Need-emit-requires-3 (fork-calls t) (fork-at t) reads.Post
 emit-requires-3 t c κs =
     let yes = c .before .before .before .before in
-    let gated = yes .before .before .before .before in
+    let gated = yes .before .before .before .before .before .before in
     let test = gated .before .before .before .before .before in
-    let ops = test .before .before in
+    let ops = test .before .before .before in
     let z = plan t ops in
     let s = entry t ops in
     let y = room t ops in (
@@ -129,29 +117,27 @@ emit-requires-3 t c κs =
           yes .emit2 .ensures .next,
           yes .emit2 .kept .1 .1 .1 .1 .0,
         );
-        sixteen = omega (arith, s .pre .1 .sixteen .0, s .pre .1 .sixteen .1);
+        sixteen = s .pre .1 .sixteen .1;
       },
     )
 
 pub same-length : (t : ℕ) → lts.Need-same-length (fork-calls t) (fork-at t) reads.Post
 same-length t c =
-    let no = c .before .before .before in
+    let no = c .before .before in
     let yes = no .before .before .before .before .before in
-    let gated = yes .before .before .before .before in
+    let gated = yes .before .before .before .before .before .before in
     let test = gated .before .before .before .before .before in
-    let ops = test .before .before in
     no .emit3 .kept .1 .1 .1 .1 .0 ∙ (yes .emit2 .kept .1 .1 .1 .1 .0 ∙ (gated .gates .kept .0 ∙ test .emit .kept .1 .1 .1 .1 .0))
 
 pub returns : (t : ℕ) → lts.Need-returns (fork-calls t) (fork-at t) reads.Post
 returns t c =
-    let no = c .before .before .before in
+    let no = c .before .before in
     let yes = no .before .before .before .before .before in
-    let gated = yes .before .before .before .before in
+    let gated = yes .before .before .before .before .before .before in
     let test = gated .before .before .before .before .before in
-    let ops = test .before .before in
+    let ops = test .before .before .before in
     let z = plan t ops in
     let s = entry t ops in
-    let y = room t ops in
     rw (← ops .before .before .operand .ensures, ← ops .before .operand2 .ensures, ← ops .operand3 .ensures)
     (forks (z .test .typed) (z .yes .typed) (z .no .typed) (z .same-f) (z .same-g) _ _ _ _ (s .pre .1 .sixteen .0) (s .pre .1 .sixteen .1)
-    _ _ _ _ _ _ _ _ (test .emit .ensures) (gated .gates .ensures) (yes .emit2 .ensures) (no .emit3 .ensures))
+    _ _ _ _ _ _ _ _ _ _ _ (test .emit .ensures) (gated .gates .ensures) (yes .emit2 .ensures) (no .emit3 .ensures))

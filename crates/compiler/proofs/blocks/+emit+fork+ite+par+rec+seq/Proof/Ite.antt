@@ -6,8 +6,8 @@ use lib.ListN.{length}
 use Rattle.meaning.specs.Choices.{at}
 use Rattle.meaning.specs.Counts.{size}
 use Rattle.meaning.specs.Checks.{operandTree}
+use Rattle.pieces.proofs.Turns.{kept-sixteen}
 use Rattle.compiler.specs.Building.{Known}
-use Rattle.compiler.proofs.Turns.{kept-sixteen}
 use Rattle.compiler.proofs.Forking.{Forked, fork-answer, ite-emits}
 use Rattle.compiler.proofs.Plans.{indexed, ItePlan, ite-plan}
 use Rattle.compiler.proofs.blocks.+emit+fork+ite+par+rec+seq.Proof.Members.{ite-at, ite-calls}
@@ -22,17 +22,17 @@ module _ (t : ℕ) (s : lts.Start (ite-calls t) (ite-at t) reads.Post) where
   plan : ItePlan (known .width) (s .args .table .now) (s .args .ins .now) (s .args .outs .now) (s .args .k)
   plan = ite-plan known (s .pre .1 .1)
 
--- .. and what the answers of `keep` and `fork` tell it.
+-- .. and what `keep` and `fork` leave it.
 module _ (t : ℕ) (c : lts.After-keep (ite-calls t) (ite-at t) reads.Post) where
   abbrev entry : lts.Start (ite-calls t) (ite-at t) reads.Post
-  entry = c .before .before .before .before .before .before
+  entry = c .before .before .before .before .before .before .before
 
-  kept-long : length (c .keep .result) ≡ 16
+  kept-long : length (c .keep .last .1 .1 .1 .1 .1 .0) ≡ 16
   kept-long = ap length (c .keep .ensures .0) ∙ kept-sixteen _ _ _ (plan t entry .few-ins) (entry .pre .1 .0 .sixteen)
 
 module _ (t : ℕ) (c : lts.After-fork (ite-calls t) (ite-at t) reads.Post) where
   abbrev at-keep : lts.After-keep (ite-calls t) (ite-at t) reads.Post
-  at-keep = c .before .before .before .before
+  at-keep = c .before .before .before .before .before .before
 
   abbrev start : lts.Start (ite-calls t) (ite-at t) reads.Post
   start = entry t at-keep
@@ -43,7 +43,8 @@ module _ (t : ℕ) (c : lts.After-fork (ite-calls t) (ite-at t) reads.Post) wher
   abbrev place : ℕ
   place = start .args .at + 2 * at (start .args .ins .now) (start .args .k)
 
-  forked : Forked (part 1) (part 2) (part 3) place (c .fork .result)
+  forked : Forked (part 1) (part 2) (part 3) place (c .fork .last .1 .1 .1 .1 .1 .1 .1 .0) (c .fork .last .1 .1 .1 .1 .1 .1 .1 .1 .0)
+      (c .fork .result)
   forked =
       let p = plan t start .fork in
       fork-answer (p .test .typed) (p .yes .typed) (p .no .typed) (p .same-f) (p .same-g) _ _ _ _ (start .pre .1 .0 .sixteen)
@@ -51,50 +52,33 @@ module _ (t : ℕ) (c : lts.After-fork (ite-calls t) (ite-at t) reads.Post) wher
 
 pub mul-n : (t : ℕ) → lts.Need-mul-n (ite-calls t) (ite-at t) reads.Post
 mul-n t c =
-    let s = c .before .before in
-    let i = indexed (known t s) in
+    let i = indexed (known t (c .before .before)) in
     omega arith
 
 pub element-copy-out-n : (t : ℕ) → lts.Need-element-copy-out-n (ite-calls t) (ite-at t) reads.Post
-element-copy-out-n t c =
-    let s = c .before .before in
-    let i = indexed (known t s) in
-    omega arith
-
-pub mul-m : (t : ℕ) → lts.Need-mul-m (ite-calls t) (ite-at t) reads.Post
-mul-m t c =
-    let s = c .before .before .before in
-    let i = indexed (known t s) in
-    omega arith
-
-pub element-copy-out-m : (t : ℕ) → lts.Need-element-copy-out-m (ite-calls t) (ite-at t) reads.Post
-element-copy-out-m t c =
-    let s = c .before .before .before in
-    let i = indexed (known t s) in
-    omega arith
+element-copy-out-n t c = indexed (known t (c .before .before))
 
 pub keep-requires : (t : ℕ) → lts.Need-keep-requires (ite-calls t) (ite-at t) reads.Post
 keep-requires t c κs =
-    let s = c .before .before .before .before .before in
+    let s = c .before .before .before .before .before .before in
     let z = plan t s in
     (z .few-ins, omega arith, s .pre .1 .0 .sixteen)
 
 pub mul-fork : (t : ℕ) → lts.Need-mul-fork (ite-calls t) (ite-at t) reads.Post
 mul-fork t c =
-    let s = c .before .before .before .before .before .before .before .before .before in
-    let z = plan t s in
+    let z = plan t (c .before .before .before .before .before .before .before .before .before .before) in
     omega arith
 
 pub add-fork : (t : ℕ) → lts.Need-add-fork (ite-calls t) (ite-at t) reads.Post
 add-fork t c =
-    let s = c .before .before .before .before .before .before .before .before .before in
+    let s = c .before .before .before .before .before .before .before .before .before .before in
     let z = plan t s in
     omega arith
 
 pub fork-requires : (t : ℕ) → lts.Need-fork-requires (ite-calls t) (ite-at t) reads.Post
 fork-requires t c κs =
-    let kept = c .before .before .before in
-    let s = kept .before .before .before .before .before .before in
+    let kept = c .before .before .before .before .before in
+    let s = entry t kept in
     let z = plan t s in (
       omega (arith, s .pre .0),
       record {
@@ -105,123 +89,42 @@ fork-requires t c κs =
       },
     )
 
-pub put-requires : (t : ℕ) → lts.Need-put-requires (ite-calls t) (ite-at t) reads.Post
-put-requires t c κs =
-    let both = c .before .before .before .before .before in
-    let kept = both .before .before .before .before in
-    let s = kept .before .before .before .before .before .before in
-    let z = plan t s in
-    let b = forked t both in
-    omega (arith, kept .keep .kept .0, both .fork .kept .1 .1 .1 .1 .0)
-
-pub add-put : (t : ℕ) → lts.Need-add-put (ite-calls t) (ite-at t) reads.Post
-add-put t c =
-    let both = c .before .before .before .before .before .before .before .before .before in
-    let kept = both .before .before .before .before in
-    let s = kept .before .before .before .before .before .before in
-    let z = plan t s in
-    let b = forked t both in
+pub mul-merge : (t : ℕ) → lts.Need-mul-merge (ite-calls t) (ite-at t) reads.Post
+mul-merge t c =
+    let i = indexed (known t (start t (c .before .before .before .before .before))) in
     omega arith
 
-pub put-requires-2 : (t : ℕ) → lts.Need-put-requires-2 (ite-calls t) (ite-at t) reads.Post
-put-requires-2 t c κs =
-    let put1 = c .before .before .before in
-    let both = put1 .before .before .before .before .before .before in
-    let kept = both .before .before .before .before in
-    let s = kept .before .before .before .before .before .before in
-    let z = plan t s in
-    let b = forked t both in
-    omega (arith, kept .keep .kept .0, both .fork .kept .1 .1 .1 .1 .0, put1 .put .kept .0)
+pub element-copy-out-merge : (t : ℕ) → lts.Need-element-copy-out-merge (ite-calls t) (ite-at t) reads.Post
+element-copy-out-merge t c = indexed (known t (start t (c .before .before .before .before .before)))
 
-pub add-choose : (t : ℕ) → lts.Need-add-choose (ite-calls t) (ite-at t) reads.Post
-add-choose t c =
-    let both = c .before .before .before .before .before .before .before .before .before .before .before .before .before in
-    let kept = both .before .before .before .before in
-    let s = kept .before .before .before .before .before .before in
-    let z = plan t s in
-    let b = forked t both in
-    omega arith
-
-pub add-choose-2 : (t : ℕ) → lts.Need-add-choose-2 (ite-calls t) (ite-at t) reads.Post
-add-choose-2 t c =
-    let both = c .before .before .before .before .before .before .before .before .before .before .before .before .before in
-    let kept = both .before .before .before .before in
-    let s = kept .before .before .before .before .before .before in
-    let z = plan t s in
-    let b = forked t both in
-    omega arith
-
-pub choose-requires : (t : ℕ) → lts.Need-choose-requires (ite-calls t) (ite-at t) reads.Post
-choose-requires t c κs =
-    let put2 = c .before .before .before in
-    let put1 = put2 .before .before .before .before in
-    let both = put1 .before .before .before .before .before .before in
-    let kept = both .before .before .before .before in
-    let s = kept .before .before .before .before .before .before in
+pub merge-requires : (t : ℕ) → lts.Need-merge-requires (ite-calls t) (ite-at t) reads.Post
+merge-requires t c κs =
+    let both = c .before .before .before .before .before .before in
+    let kept = at-keep t both in
+    let s = start t both in
     let z = plan t s in
     let b = forked t both in (
       z .few-outs,
-      omega (
-        arith,
-        kept .keep .kept .0,
-        both .fork .kept .1 .1 .1 .1 .0,
-        put1 .put .kept .0,
-        put2 .put2 .kept .0,
-      ),
-      b .ends,
-      b .feeds,
+      omega (arith, kept .keep .kept .0, both .fork .kept .1 .1 .1 .1 .0),
+      omega arith,
+      b .yes,
+      b .no,
     )
-
-pub add-t31 : (t : ℕ) → lts.Need-add-t31 (ite-calls t) (ite-at t) reads.Post
-add-t31 t c =
-    let back = c .before .before .before .before .before .before .before .before .before .before .before .before .before .before in
-    let both = back .before .before in
-    let kept = both .before .before .before .before in
-    let s = kept .before .before .before .before .before .before in
-    let z = plan t s in
-    let b = forked t both in
-    omega arith
-
-pub add-t24 : (t : ℕ) → lts.Need-add-t24 (ite-calls t) (ite-at t) reads.Post
-add-t24 t c =
-    let back = c .before .before .before .before .before .before .before .before .before .before .before .before .before .before in
-    let both = back .before .before in
-    let kept = both .before .before .before .before in
-    let s = kept .before .before .before .before .before .before in
-    let z = plan t s in
-    let b = forked t both in
-    omega arith
-
-pub add-t39 : (t : ℕ) → lts.Need-add-t39 (ite-calls t) (ite-at t) reads.Post
-add-t39 t c =
-    let back = c .before .before .before .before .before .before .before .before .before .before .before .before .before .before in
-    let both = back .before .before in
-    let kept = both .before .before .before .before in
-    let s = kept .before .before .before .before .before .before in
-    let z = plan t s in
-    let b = forked t both in
-    omega arith
 
 pub same-length : (t : ℕ) → lts.Need-same-length (ite-calls t) (ite-at t) reads.Post
 same-length t c =
-    let chosen = c .before .before in
-    let put2 = chosen .before .before .before .before in
-    let put1 = put2 .before .before .before .before in
-    let both = put1 .before .before .before .before .before .before in
-    let kept = both .before .before .before .before in
-    chosen .choose .kept .0 ∙ (put2 .put2 .kept .0 ∙ (put1 .put .kept .0
-    ∙ (both .fork .kept .1 .1 .1 .1 .0 ∙ kept .keep .kept .0)))
+    let merged = c .before .before in
+    let both = merged .before .before .before .before .before .before .before in
+    merged .merge .kept .0 ∙ (both .fork .kept .1 .1 .1 .1 .0 ∙ at-keep t both .keep .kept .0)
 
 pub returns : (t : ℕ) → lts.Need-returns (ite-calls t) (ite-at t) reads.Post
 returns t c =
-    let chosen = c .before .before in
-    let put2 = chosen .before .before .before .before in
-    let put1 = put2 .before .before .before .before in
-    let both = put1 .before .before .before .before .before .before in
-    let kept = both .before .before .before .before in
-    let s = kept .before .before .before .before .before .before in
+    let merged = c .before .before in
+    let both = merged .before .before .before .before .before .before .before in
+    let kept = at-keep t both in
+    let s = start t both in
     let z = plan t s in
     let p = z .fork in
     rw (z .decoded) (ite-emits (p .test .typed) (p .yes .typed) (p .no .typed) (p .same-f) (p .same-g) (z .same-outs)
-    _ _ _ (s .pre .1 .0 .sixteen) _ _ _ _ _ _ _ _ _ _ _ _ (z .takes) (z .gives) refl (kept .keep .ensures .0) (kept .keep .ensures .1)
-    (both .fork .ensures) (put1 .put .ensures) (put2 .put2 .ensures) (chosen .choose .ensures .0) (chosen .choose .ensures .1))
+    _ _ _ (s .pre .1 .0 .sixteen) _ _ _ _ _ _ _ _ _ _ _ _ _ (z .takes) (z .gives) refl (kept .keep .ensures .0) (kept .keep .ensures .1)
+    (both .fork .ensures) (merged .merge .ensures .0) (merged .merge .ensures .1) (merged .merge .ensures .2))

@@ -35,7 +35,7 @@ operand-requires-2 t c κs =
 
 pub emit-requires : (t : ℕ) → lts.Need-emit-requires (par-calls t) (par-at t) reads.Post
 emit-requires t c κs =
-    let ops = c .before in
+    let ops = c .before .before .before in
     let z = plan t ops in
     let s = entry t ops in
     (omega (arith, s .pre .0), record { known = z .first .known; room = omega arith; sixteen = s .pre .1 .0 .sixteen })
@@ -43,7 +43,7 @@ emit-requires t c κs =
 pub emit-requires-2 : (t : ℕ) → lts.Need-emit-requires-2 (par-calls t) (par-at t) reads.Post
 emit-requires-2 t c κs =
     let first = c .before .before .before .before in
-    let ops = first .before .before in
+    let ops = first .before .before .before .before in
     let z = plan t ops in
     let s = entry t ops in (
       omega (arith, s .pre .0),
@@ -56,9 +56,9 @@ emit-requires-2 t c κs =
 
 pub put-requires : (t : ℕ) → lts.Need-put-requires (par-calls t) (par-at t) reads.Post
 put-requires t c κs =
-    let second = c .before .before .before .before in
+    let second = c .before .before .before in
     let first = second .before .before .before .before .before in
-    let ops = first .before .before in
+    let ops = first .before .before .before .before in
     let z = plan t ops in
     let s = entry t ops in
     omega (
@@ -69,63 +69,60 @@ put-requires t c κs =
       second .emit2 .kept .1 .1 .1 .1 .0,
     )
 
-pub add-t26 : (t : ℕ) → lts.Need-add-t26 (par-calls t) (par-at t) reads.Post
-add-t26 t c =
-    let second = c .before .before .before .before .before .before .before in
-    let first = second .before .before .before .before .before in
-    let ops = first .before .before in
-    let z = plan t ops in
-    let s = entry t ops in
-    omega (arith, first .emit .ensures .next, second .emit2 .ensures .next)
+-- What stands when the rows are joined.
+module _ (t : ℕ) (c : lts.After-put (par-calls t) (par-at t) reads.Post) where
+  abbrev at-second : lts.After-emit2 (par-calls t) (par-at t) reads.Post
+  at-second = c .before .before .before .before
+
+  abbrev at-first : lts.After-emit (par-calls t) (par-at t) reads.Post
+  at-first = at-second .before .before .before .before .before
+
+  abbrev named : lts.After-operand2 (par-calls t) (par-at t) reads.Post
+  named = at-first .before .before .before .before
 
 pub mul-join : (t : ℕ) → lts.Need-mul-join (par-calls t) (par-at t) reads.Post
 mul-join t c =
-    let ops = c .before .before .before .before .before .before .before .before .before .before .before .before .before .before in
-    let i = indexed (plan t ops .first .known) in
+    let i = indexed (plan t (named t (c .before .before .before)) .first .known) in
     omega arith
 
 pub element-copy-out-join : (t : ℕ) → lts.Need-element-copy-out-join (par-calls t) (par-at t) reads.Post
-element-copy-out-join t c =
-    let ops = c .before .before .before .before .before .before .before .before .before .before .before .before .before .before in
-    indexed (plan t ops .first .known)
+element-copy-out-join t c = indexed (plan t (named t (c .before .before .before)) .first .known)
 
 pub mul-join-2 : (t : ℕ) → lts.Need-mul-join-2 (par-calls t) (par-at t) reads.Post
 mul-join-2 t c =
-    let ops = c .before .before .before .before .before .before .before .before .before .before .before .before .before .before .before in
-    let i = indexed (plan t ops .second .known) in
+    let i = indexed (plan t (named t (c .before .before .before .before .before)) .second .known) in
     omega arith
 
 pub element-copy-out-join-2 : (t : ℕ) → lts.Need-element-copy-out-join-2 (par-calls t) (par-at t) reads.Post
-element-copy-out-join-2 t c =
-    let ops = c .before .before .before .before .before .before .before .before .before .before .before .before .before .before .before in
-    indexed (plan t ops .second .known)
+element-copy-out-join-2 t c = indexed (plan t (named t (c .before .before .before .before .before)) .second .known)
 
 pub join-requires : (t : ℕ) → lts.Need-join-requires (par-calls t) (par-at t) reads.Post
 join-requires t c κs =
-    let second = c .before .before .before .before .before .before .before .before .before in
-    let first = second .before .before .before .before .before in
-    let ops = first .before .before in
-    let z = plan t ops in
-    let s = entry t ops in (
+    let last = c .before .before .before .before .before .before in
+    let z = plan t (named t last) in
+    let long = entry t (named t last) .pre .1 .0 .sixteen in (
       omega (arith, z .few, z .gives-f, z .gives-g),
-      handed-long (z .first .typed) _ _ _ (s .pre .1 .0 .sixteen) (first .emit .ensures),
-      handed-long (z .second .typed) _ _ _ (s .pre .1 .0 .sixteen) (second .emit2 .ensures),
+      handed-long (z .first .typed) _ _ _ long (at-first t last .emit .ensures),
+      handed-long (z .second .typed) _ _ _ long (at-second t last .emit2 .ensures),
     )
+
+pub add-t29 : (t : ℕ) → lts.Need-add-t29 (par-calls t) (par-at t) reads.Post
+add-t29 t c =
+    let last = c .before .before .before .before .before .before .before in
+    let z = plan t (named t last) in
+    let s = entry t (named t last) in
+    omega (arith, at-first t last .emit .ensures .next, at-second t last .emit2 .ensures .next)
 
 pub same-length : (t : ℕ) → lts.Need-same-length (par-calls t) (par-at t) reads.Post
 same-length t c =
-    let last = c .before .before .before .before .before in
-    let second = last .before .before .before .before .before in
-    let first = second .before .before .before .before .before in
-    last .put .kept .0 ∙ (second .emit2 .kept .1 .1 .1 .1 .0 ∙ first .emit .kept .1 .1 .1 .1 .0)
+    let last = c .before .before .before .before .before .before .before in
+    last .put .kept .0 ∙ (at-second t last .emit2 .kept .1 .1 .1 .1 .0 ∙ at-first t last .emit .kept .1 .1 .1 .1 .0)
 
 pub returns : (t : ℕ) → lts.Need-returns (par-calls t) (par-at t) reads.Post
 returns t c =
-    let last = c .before .before .before .before .before in
-    let second = last .before .before .before .before .before in
-    let first = second .before .before .before .before .before in
-    let ops = first .before .before in
-    let z = plan t ops in
-    let s = entry t ops in
-    rw (z .decoded) (par-emits (z .first .typed) (z .second .typed) (z .same) (z .few) _ _ _ (s .pre .1 .0 .sixteen) _ _ _ _ _ _
-    (first .emit .ensures) (second .emit2 .ensures) (last .put .ensures) _ (c .join .ensures ∙ rw (z .gives-f, z .gives-g) refl))
+    let last = c .before .before .before .before .before .before .before in
+    let z = plan t (named t last) in
+    let s = entry t (named t last) in
+    rw (z .decoded) (par-emits (z .first .typed) (z .second .typed) (z .same) (z .few) _ _ _ (s .pre .1 .0 .sixteen) _ _ _ _ _ _ _ _ _
+    (at-first t last .emit .ensures) (at-second t last .emit2 .ensures) (last .put .ensures)
+    (c .join .ensures ∙ rw (z .gives-f, z .gives-g) refl))

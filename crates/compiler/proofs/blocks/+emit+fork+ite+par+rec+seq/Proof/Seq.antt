@@ -35,40 +35,40 @@ operand-requires-2 t c κs =
 
 pub emit-requires : (t : ℕ) → lts.Need-emit-requires (seq-calls t) (seq-at t) reads.Post
 emit-requires t c κs =
-    let ops = c .before in
+    let ops = c .before .before in
     let z = plan t ops in
     let s = entry t ops in
     (omega (arith, s .pre .0), record { known = z .first .known; room = omega arith; sixteen = s .pre .1 .0 .sixteen })
 
 pub rise-requires : (t : ℕ) → lts.Need-rise-requires (seq-calls t) (seq-at t) reads.Post
 rise-requires t c κs =
-    let first = c .before .before .before .before in
-    let ops = first .before .before in
+    let first = c .before .before .before in
+    let ops = first .before .before .before in
     let z = plan t ops in
     let s = entry t ops in
     omega (arith, first .emit .ensures .next, first .emit .kept .1 .1 .1 .1 .0)
 
 pub add-emit : (t : ℕ) → lts.Need-add-emit (seq-calls t) (seq-at t) reads.Post
 add-emit t c =
-    let first = c .before .before .before .before .before .before .before .before in
-    let ops = first .before .before in
+    let first = c .before .before .before .before .before .before .before in
+    let ops = first .before .before .before in
     let z = plan t ops in
     let s = entry t ops in
     omega (arith, first .emit .ensures .next)
 
 pub add-emit-2 : (t : ℕ) → lts.Need-add-emit-2 (seq-calls t) (seq-at t) reads.Post
 add-emit-2 t c =
-    let first = c .before .before .before .before .before .before .before .before in
-    let ops = first .before .before in
+    let first = c .before .before .before .before .before .before .before in
+    let ops = first .before .before .before in
     let z = plan t ops in
     let s = entry t ops in
     omega (arith, first .emit .ensures .next)
 
 pub emit-requires-2 : (t : ℕ) → lts.Need-emit-requires-2 (seq-calls t) (seq-at t) reads.Post
 emit-requires-2 t c κs =
-    let risen = c .before .before .before in
-    let first = risen .before .before .before .before .before in
-    let ops = first .before .before in
+    let risen = c .before .before .before .before in
+    let first = risen .before .before .before .before in
+    let ops = first .before .before .before in
     let z = plan t ops in
     let s = entry t ops in (
       omega (arith, s .pre .0),
@@ -81,10 +81,10 @@ emit-requires-2 t c κs =
 
 pub put-requires : (t : ℕ) → lts.Need-put-requires (seq-calls t) (seq-at t) reads.Post
 put-requires t c κs =
-    let second = c .before .before .before .before in
-    let risen = second .before .before .before .before in
-    let first = risen .before .before .before .before .before in
-    let ops = first .before .before in
+    let second = c .before .before .before in
+    let risen = second .before .before .before .before .before in
+    let first = risen .before .before .before .before in
+    let ops = first .before .before .before in
     let z = plan t ops in
     let s = entry t ops in
     omega (
@@ -96,11 +96,11 @@ put-requires t c κs =
       second .emit2 .kept .1 .1 .1 .1 .0,
     )
 
-pub add-t27 : (t : ℕ) → lts.Need-add-t27 (seq-calls t) (seq-at t) reads.Post
-add-t27 t c =
-    let second = c .before .before .before .before .before .before .before in
+pub add-t24 : (t : ℕ) → lts.Need-add-t24 (seq-calls t) (seq-at t) reads.Post
+add-t24 t c =
+    let second = c .before .before .before .before .before .before in
     let first = second .before .before .before .before .before .before .before .before .before in
-    let ops = first .before .before in
+    let ops = first .before .before .before in
     let z = plan t ops in
     let s = entry t ops in
     omega (arith, first .emit .ensures .next, second .emit2 .ensures .next)
@@ -108,19 +108,19 @@ add-t27 t c =
 pub same-length : (t : ℕ) → lts.Need-same-length (seq-calls t) (seq-at t) reads.Post
 same-length t c =
     let last = c .before .before in
-    let second = last .before .before .before .before .before in
-    let risen = second .before .before .before .before in
-    let first = risen .before .before .before .before .before in
+    let second = last .before .before .before .before in
+    let risen = second .before .before .before .before .before in
+    let first = risen .before .before .before .before in
     last .put .kept .0 ∙ (second .emit2 .kept .1 .1 .1 .1 .0 ∙ (risen .rise .kept .0 ∙ first .emit .kept .1 .1 .1 .1 .0))
 
 pub returns : (t : ℕ) → lts.Need-returns (seq-calls t) (seq-at t) reads.Post
 returns t c =
     let last = c .before .before in
-    let second = last .before .before .before .before .before in
-    let risen = second .before .before .before .before in
-    let first = risen .before .before .before .before .before in
-    let ops = first .before .before in
+    let second = last .before .before .before .before in
+    let risen = second .before .before .before .before .before in
+    let first = risen .before .before .before .before in
+    let ops = first .before .before .before in
     let z = plan t ops in
     let s = entry t ops in
-    rw (z .decoded) (seq-emits (z .first .typed) (z .second .typed) (z .meet) _ _ _ (s .pre .1 .0 .sixteen) _ _ _ _ _ _ _
+    rw (z .decoded) (seq-emits (z .first .typed) (z .second .typed) (z .meet) _ _ _ (s .pre .1 .0 .sixteen) _ _ _ _ _ _ _ _ _
     (first .emit .ensures) (risen .rise .ensures) (second .emit2 .ensures) (last .put .ensures))
