@@ -8,30 +8,13 @@
 use meaning::Facts;
 use meaning::Verdict;
 ghost use mathlib.Core.Path.{_≡_};
-ghost use Prim.Native.Nat.{_*_, _+_, _<_, _≤_, _%_};
-ghost use lib.ListN.{length};
+ghost use Prim.Native.Nat.{_≤_, _%_};
 ghost use lib.Dec.{eqb, leb};
 ghost use Rattle.meaning.specs.Choices.{and};
-ghost use Rattle.meaning.specs.Terms.{numberOf, tree};
+ghost use Rattle.meaning.specs.Terms.{tree};
 ghost use Rattle.meaning.specs.Counts.{«size»};
 ghost use Rattle.meaning.specs.Answers.{factsOf};
 ghost use Rattle.terms.specs.Checked.{framedOf, bareFacts, ownOf, CanSize};
-
-// Number j of term k.
-pub fn number(table: &[u32], k: usize, j: usize) -> u32
-    requires { ⌜ (j < 4) × (k * 4 + 4 ≤ length (now table)) ⌝ }
-    ensures { λ r. ⌜ r ≡ numberOf (now (table .entry)) k j ⌝ }
-{
-    tables::number(table, k, j)
-}
-
-// The same number, as the term that it names.
-pub fn operand(table: &[u32], k: usize, j: usize) -> usize
-    requires { ⌜ (j < 4) × (k * 4 + 4 ≤ length (now table)) ⌝ }
-    ensures { λ r. ⌜ r ≡ numberOf (now (table .entry)) k j ⌝ }
-{
-    tables::operand(table, k, j)
-}
 
 // 2: a length is that of 1 to 256 terms.
 fn length_fits(len: usize) -> bool

@@ -30,8 +30,8 @@ use Rattle.pieces.proofs.rows.keep.Reads as keep-reads
 use Rattle.pieces.proofs.seams.feed.Reads as feed-reads
 use Rattle.pieces.proofs.seams.merge.Reads as merge-reads
 use Rattle.pieces.proofs.seams.round.Reads as round-reads
-use Rattle.terms.proofs.number.Reads as number-reads
-use Rattle.terms.proofs.operand.Reads as operand-reads
+use Rattle.tables.proofs.number.Reads as number-reads
+use Rattle.tables.proofs.operand.Reads as operand-reads
 
 abbrev pub μ-emit : Measures 5 emit-kinds.ps ℕ
 μ-emit κs a = 3 * a .1 .1 .1 .0 + 2
