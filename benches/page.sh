@@ -8,7 +8,7 @@ identity() {
     printf '%s\n' "- Machine: $(sed -n 's/^model name[^:]*: //p' /proc/cpuinfo | head -n 1), $(nproc) cores, Linux $(uname -r)"
     printf '%s\n' "- Load when it began: $1"
     printf '%s\n' "- Kit: $(rt version)"
-    printf '%s\n' "- Tools: $(verilator --version | cut -d ' ' -f 1,2), Icarus Verilog $(vvp -V | sed -n '1s/.*version \([^ ]*\).*/\1/p')," \
+    printf '%s\n' "- Tools: $(verilator --version | cut -d ' ' -f 1,2), Icarus Verilog $(vvp -V 2>&1 | sed -n '1s/.*version \([^ ]*\).*/\1/p')," \
         "  g++ $(g++ -dumpfullversion), $(rustc --version | cut -d ' ' -f 1,2)"
     printf '\n'
 }

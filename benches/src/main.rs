@@ -25,7 +25,7 @@ use model::toolchain::{Model, Toolchain};
 use peers::{Build, Folder};
 use report::{amount, Table};
 use std::path::Path;
-use timing::{medians, once, Contender};
+use timing::{median, medians, once, Contender};
 
 /// The rounds of samples that are short, and of those that build something.
 const ROUNDS: usize = 7;
@@ -94,11 +94,12 @@ fn whole<'a>(name: &'static str, sample: impl FnMut() -> f64 + 'a) -> Contender<
 
 /// Times the way from a table, or from its text, to the first answer.
 fn answers(folder: &Folder, circuit: &Circuit, host: &Path) -> Answers {
-    let starts = || (0..STARTS).map(|_| folder.run_host(host)).sum::<f64>() / STARTS as f64;
+    let starts = || median((0..STARTS).map(|_| folder.run_host(host)).collect());
+    // The run that warms up is the first answer: no further one is asked for.
     let verilator = || {
         once(|| {
             let program = folder.verilate(Build::Soon);
-            folder.run_verilated(&program, 1);
+            folder.run_verilated(&program, 0);
         })
     };
     let icarus = || {
@@ -121,31 +122,31 @@ fn answers(folder: &Folder, circuit: &Circuit, host: &Path) -> Answers {
     Answers { evaluated, process, stepped, verilator, icarus }
 }
 
-/// Adds the ratios of all that runs a circuit.
+/// Adds the ratios of all that runs a circuit. A goal may depend on the count of cells.
 fn add_cycles(table: &mut Table, all: &[(&Circuit, Cycles)]) {
-    let mut rows = |what: &str, pick: &dyn Fn(&Circuit, &Cycles) -> (f64, f64, Option<f64>)| {
-        for (circuit, cycles) in all {
-            let (ours, theirs, goal) = pick(circuit, cycles);
-            table.ratio(what, &circuit.title(), ours, theirs, goal);
-        }
-    };
-    let near = |circuit: &Circuit| match circuit.cells() {
+    type Pick = fn(&Cycles) -> (f64, f64);
+    type Goal = fn(usize) -> Option<f64>;
+    let near: Goal = |cells| match cells {
         0..=65 => Some(2.0),
-        2001.. => Some(3.5),
-        _ => None,
+        66..=2000 => None,
+        _ => Some(3.5),
     };
-    let fifteen = Some(1.0 / 15.0);
-    rows("inner step / Icarus vvp, a cycle", &|_, c| (c.inner, c.icarus, fifteen));
-    rows("inner step / Verilator, a cycle", &|circuit, c| (c.inner, c.verilator, near(circuit)));
-    rows("public step / inner step, a cycle", &|_, c| (c.step, c.inner, Some(2.5)));
-    rows("public step / model's step, a cycle", &|_, c| (c.step, c.model_step, Some(1.2)));
-    rows("evaluator / Verilator, a cycle", &|_, c| (c.evaluator, c.verilator, Some(1.0)));
-    rows("evaluator / model's evaluator, a cycle", &|_, c| {
-        (c.evaluator, c.model_evaluator, Some(1.2))
-    });
-    rows("evaluator / model's evaluator, walking, a cycle", &|_, c| {
-        (c.evaluator, c.model_walk, Some(1.2))
-    });
+    let sorts: [(&str, Goal, Pick); 7] = [
+        ("inner step / Icarus vvp", |_| Some(1.0 / 15.0), |c| (c.inner, c.icarus)),
+        ("inner step / Verilator", near, |c| (c.inner, c.verilator)),
+        ("public step / inner step", |_| Some(2.5), |c| (c.step, c.inner)),
+        ("public step / model's step", |_| Some(1.2), |c| (c.step, c.model_step)),
+        ("evaluator / Verilator", |_| Some(1.0), |c| (c.evaluator, c.verilator)),
+        ("evaluator / model's evaluator", |_| Some(1.2), |c| (c.evaluator, c.model_evaluator)),
+        ("evaluator / model's, walking", |_| Some(1.2), |c| (c.evaluator, c.model_walk)),
+    ];
+    for (what, goal, pick) in sorts {
+        for (circuit, cycles) in all {
+            let (ours, theirs) = pick(cycles);
+            let what = format!("a cycle: {what}");
+            table.ratio(&what, &circuit.title(), ours, theirs, goal(circuit.cells()));
+        }
+    }
 }
 
 /// Adds the ratios of first answers.
@@ -202,7 +203,7 @@ fn sizes(table: &mut Table, countdown: &Circuit) -> Table {
         }
         let most = three.iter().copied().fold(0.0, f64::max);
         let least = three.iter().copied().fold(f64::MAX, f64::min);
-        let what = format!("{name}, a cell: slowest size / fastest size");
+        let what = format!("a cell: {name}, slowest size / fastest size");
         let sizes = format!("{} cells", cells.map(|cells| cells.to_string()).join(", "));
         table.ratio(&what, &sizes, most, least, Some(1.5));
     }

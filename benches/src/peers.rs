@@ -1,5 +1,6 @@
 //! The contenders that run as programs of their own: Verilator's, Icarus Verilog's and the shortest
-//! host of the proved library, `benches/answer.c`. What they are made from stands in a folder a circuit.
+//! host of the proved library, `benches/answer.c`. What they are made from stands in a folder a
+//! circuit.
 
 use crate::circuits::Circuit;
 use crate::timing::{children_time, once, Contender};
@@ -27,7 +28,7 @@ pub struct Folder<'a> {
     drivers: PathBuf,
 }
 
-/// Runs a tool in a folder and gives what it prints; a tool that is missing or fails ends the bench.
+/// Runs a tool in a folder and gives what it prints; one that is missing or fails ends the bench.
 fn tool(folder: &Path, name: &str, arguments: &[&str]) -> String {
     run(folder, name, arguments).unwrap_or_else(|error| panic!("{name}: {error}"))
 }
@@ -85,13 +86,13 @@ impl<'a> Folder<'a> {
     /// Builds the circuit with Verilator; gives the program.
     pub fn verilate(&self, build: Build) -> PathBuf {
         let (made, level) = match build {
-            Build::Fast => ("fast", "-O3"),
+            Build::Fast => ("fast", "-O3 -march=native"),
             Build::Soon => ("soon", "-O0"),
         };
         let _ = remove_dir_all(self.path.join(made));
         let driver = self.drivers.join("verilator.cpp").display().to_string();
         let include = format!("-I{}", self.path.display());
-        let levels = format!("OPT_FAST={level} OPT_SLOW={level} OPT_GLOBAL={level}");
+        let levels = format!("OPT_FAST='{level}' OPT_SLOW='{level}' OPT_GLOBAL='{level}'");
         let fixed = "-O3 --x-assign fast --x-initial fast --noassert -Wno-fatal --top-module f \
                      --cc --exe --build -j 0";
         let mut arguments: Vec<&str> = fixed.split(' ').collect();

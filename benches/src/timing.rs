@@ -70,7 +70,7 @@ pub fn once(code: impl FnOnce()) -> f64 {
 }
 
 /// Gives the middle one of some numbers, or the mean of the two in the middle.
-fn median(mut samples: Vec<f64>) -> f64 {
+pub fn median(mut samples: Vec<f64>) -> f64 {
     samples.sort_by(f64::total_cmp);
     let (low, high) = (samples[(samples.len() - 1) / 2], samples[samples.len() / 2]);
     (low + high) / 2.0
