@@ -1,15 +1,14 @@
--- Proof: the needs of `blocks::ite`. Mathematics in `proofs.Plans` and `proofs.Forking`. Assumes nothing.
+-- Proof: the needs of `blocks::ite`. Mathematics in `proofs.Plans`, `Rooms` and `Forking`. Assumes nothing.
 use Prim.Native.Nat.{ℕ, _+_, _*_}
 use mathlib.Core.Path.{_≡_, refl, ap, _∙_}
 use native.Mathlib.Omega.{arith}
 use lib.ListN.{length}
 use Rattle.meaning.specs.Choices.{at}
-use Rattle.meaning.specs.Counts.{size}
-use Rattle.meaning.specs.Checks.{operandTree}
 use Rattle.pieces.proofs.Turns.{kept-sixteen}
 use Rattle.compiler.specs.Building.{Known}
-use Rattle.compiler.proofs.Forking.{Forked, fork-answer, ite-emits}
+use Rattle.compiler.proofs.Forking.{fork-answer, ite-emits}
 use Rattle.compiler.proofs.Plans.{indexed, ItePlan, ite-plan}
+use Rattle.compiler.proofs.Rooms.{place-fits, ForkedAt, ite-kept, twice-few, ite-place, ite-fork, ite-gate, ite-merge}
 use Rattle.compiler.proofs.blocks.+emit+fork+ite+par+rec+seq.Proof.Members.{ite-at, ite-calls}
 use Rattle.compiler.proofs.blocks.ite.Reads as reads
 use Rattle.compiler.proofs.blocks.+emit+fork+ite+par+rec+seq.Lts-ite as lts
@@ -37,14 +36,11 @@ module _ (t : ℕ) (c : lts.After-fork (ite-calls t) (ite-at t) reads.Post) wher
   abbrev start : lts.Start (ite-calls t) (ite-at t) reads.Post
   start = entry t at-keep
 
-  abbrev part : ℕ → ℕ
-  part j = size (operandTree (start .args .table .now) (start .args .k) j)
-
   abbrev place : ℕ
   place = start .args .at + 2 * at (start .args .ins .now) (start .args .k)
 
-  forked : Forked (part 1) (part 2) (part 3) place (c .fork .last .1 .1 .1 .1 .1 .1 .1 .0) (c .fork .last .1 .1 .1 .1 .1 .1 .1 .1 .0)
-      (c .fork .result)
+  forked : ForkedAt (start .args .table .now) (start .args .k) place (c .fork .last .1 .1 .1 .1 .1 .1 .1 .0)
+      (c .fork .last .1 .1 .1 .1 .1 .1 .1 .1 .0) (c .fork .result)
   forked =
       let p = plan t start .fork in
       fork-answer (p .test .typed) (p .yes .typed) (p .no .typed) (p .same-f) (p .same-g) _ _ _ _ (start .pre .1 .0 .sixteen)
@@ -62,18 +58,17 @@ pub keep-requires : (t : ℕ) → lts.Need-keep-requires (ite-calls t) (ite-at t
 keep-requires t c κs =
     let s = c .before .before .before .before .before .before in
     let z = plan t s in
-    (z .few-ins, omega arith, s .pre .1 .0 .sixteen)
+    (z .few-ins, ite-kept z _ _ (s .pre .1 .0 .room), s .pre .1 .0 .sixteen)
 
 pub mul-fork : (t : ℕ) → lts.Need-mul-fork (ite-calls t) (ite-at t) reads.Post
 mul-fork t c =
-    let z = plan t (c .before .before .before .before .before .before .before .before .before .before) in
-    omega arith
+    let s = c .before .before .before .before .before .before .before .before .before .before in
+    place-fits _ (twice-few (plan t s .few-ins))
 
 pub add-fork : (t : ℕ) → lts.Need-add-fork (ite-calls t) (ite-at t) reads.Post
 add-fork t c =
     let s = c .before .before .before .before .before .before .before .before .before .before in
-    let z = plan t s in
-    omega arith
+    place-fits _ (ite-place (plan t s) _ _ (s .pre .1 .0 .room))
 
 pub fork-requires : (t : ℕ) → lts.Need-fork-requires (ite-calls t) (ite-at t) reads.Post
 fork-requires t c κs =
@@ -84,7 +79,7 @@ fork-requires t c κs =
       record {
         known = known t s;
         tests = omega (arith, s .pre .1 .1);
-        room = omega (arith, kept .keep .kept .0);
+        room = ite-fork z _ _ (s .pre .1 .0 .room) _ (kept .keep .kept .0);
         sixteen = (s .pre .1 .0 .sixteen, kept-long t kept);
       },
     )
@@ -105,8 +100,8 @@ merge-requires t c κs =
     let z = plan t s in
     let b = forked t both in (
       z .few-outs,
-      omega (arith, kept .keep .kept .0, both .fork .kept .1 .1 .1 .1 .0),
-      omega arith,
+      ite-merge z _ _ (s .pre .1 .0 .room) b _ (both .fork .kept .1 .1 .1 .1 .0 ∙ kept .keep .kept .0),
+      ite-gate z _ _ (s .pre .1 .0 .room) b,
       b .yes,
       b .no,
     )

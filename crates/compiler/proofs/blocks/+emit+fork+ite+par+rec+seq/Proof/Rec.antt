@@ -1,16 +1,15 @@
--- Proof: the needs of `blocks::rec`. Mathematics in `proofs.Plans`, `proofs.Forking` and `proofs.Loops`. Assumes nothing.
+-- Proof: the needs of `blocks::rec`. Mathematics in `proofs.Plans`, `Rooms`, `Forking` and `Loops`. Assumes nothing.
 use Prim.Native.Nat.{ℕ, _+_, _*_}
 use mathlib.Core.Path.{_≡_, refl, ap, _∙_}
 use native.Mathlib.Omega.{arith}
 use lib.ListN.{length}
 use Rattle.meaning.specs.Choices.{at}
-use Rattle.meaning.specs.Counts.{size}
-use Rattle.meaning.specs.Checks.{operandTree}
 use Rattle.pieces.proofs.Seaming.{words-sixteen, held-sixteen}
 use Rattle.compiler.specs.Building.{Known}
-use Rattle.compiler.proofs.Forking.{Forked, fork-answer}
+use Rattle.compiler.proofs.Forking.{fork-answer}
 use Rattle.compiler.proofs.Loops.{rec-emits}
 use Rattle.compiler.proofs.Plans.{indexed, RecPlan, rec-plan}
+use Rattle.compiler.proofs.Rooms.{place-fits, four-few, ForkedAt, rec-round, rec-begins, rec-starts, rec-start, rec-place, rec-fork, rec-front, rec-feed}
 use Rattle.compiler.proofs.blocks.+emit+fork+ite+par+rec+seq.Proof.Members.{rec-at, rec-calls}
 use Rattle.compiler.proofs.blocks.rec.Reads as reads
 use Rattle.compiler.proofs.blocks.+emit+fork+ite+par+rec+seq.Lts-rec as lts
@@ -45,14 +44,11 @@ module _ (t : ℕ) (c : lts.After-fork (rec-calls t) (rec-at t) reads.Post) wher
   abbrev start : lts.Start (rec-calls t) (rec-at t) reads.Post
   start = entry t at-round
 
-  abbrev part : ℕ → ℕ
-  part j = size (operandTree (start .args .table .now) (start .args .k) j)
-
   abbrev place : ℕ
   place = start .args .at + 2 + 4 * at (start .args .ins .now) (start .args .k)
 
-  forked : Forked (part 1) (part 2) (part 3) place (c .fork .last .1 .1 .1 .1 .1 .1 .1 .0) (c .fork .last .1 .1 .1 .1 .1 .1 .1 .1 .0)
-      (c .fork .result)
+  forked : ForkedAt (start .args .table .now) (start .args .k) place (c .fork .last .1 .1 .1 .1 .1 .1 .1 .0)
+      (c .fork .last .1 .1 .1 .1 .1 .1 .1 .1 .0) (c .fork .result)
   forked =
       let p = plan t start .fork in
       fork-answer (p .test .typed) (p .yes .typed) (p .no .typed) (p .same-f) (p .same-g) _ _ _ _ (live-long t at-round)
@@ -70,36 +66,32 @@ pub round-requires : (t : ℕ) → lts.Need-round-requires (rec-calls t) (rec-at
 round-requires t c κs =
     let s = c .before .before .before .before .before .before in
     let z = plan t s in
-    (z .few-ins, omega arith, s .pre .1 .0 .sixteen)
+    (z .few-ins, rec-round z _ _ (s .pre .1 .0 .room), s .pre .1 .0 .sixteen)
 
 pub add-first : (t : ℕ) → lts.Need-add-first (rec-calls t) (rec-at t) reads.Post
 add-first t c =
     let s = c .before .before .before .before .before .before .before .before .before in
-    let z = plan t s in
-    omega arith
+    place-fits _ (rec-begins (plan t s) _ _ (s .pre .1 .0 .room))
 
 pub mul-first : (t : ℕ) → lts.Need-mul-first (rec-calls t) (rec-at t) reads.Post
 mul-first t c =
-    let z = plan t (c .before .before .before .before .before .before .before .before .before) in
-    omega arith
+    let s = c .before .before .before .before .before .before .before .before .before in
+    place-fits _ (four-few (plan t s .few-ins))
 
 pub add-first-2 : (t : ℕ) → lts.Need-add-first-2 (rec-calls t) (rec-at t) reads.Post
 add-first-2 t c =
     let s = c .before .before .before .before .before .before .before .before .before in
-    let z = plan t s in
-    omega arith
+    place-fits _ (rec-place (plan t s) _ _ (s .pre .1 .0 .room))
 
 pub add-fork : (t : ℕ) → lts.Need-add-fork (rec-calls t) (rec-at t) reads.Post
 add-fork t c =
     let s = c .before .before .before .before .before .before .before .before .before .before in
-    let z = plan t s in
-    omega arith
+    place-fits _ (rec-starts (plan t s) _ _ (s .pre .1 .0 .room))
 
 pub add-fork-2 : (t : ℕ) → lts.Need-add-fork-2 (rec-calls t) (rec-at t) reads.Post
 add-fork-2 t c =
     let s = c .before .before .before .before .before .before .before .before .before .before in
-    let z = plan t s in
-    omega arith
+    place-fits _ (rec-start (plan t s) _ _ (s .pre .1 .0 .room))
 
 pub fork-requires : (t : ℕ) → lts.Need-fork-requires (rec-calls t) (rec-at t) reads.Post
 fork-requires t c κs =
@@ -110,7 +102,7 @@ fork-requires t c κs =
       record {
         known = known t s;
         tests = omega (arith, s .pre .1 .1);
-        room = omega (arith, begun .round .kept .0);
+        room = rec-fork z _ _ (s .pre .1 .0 .room) _ (begun .round .kept .0);
         sixteen = (live-long t begun, kept-long t begun);
       },
     )
@@ -123,8 +115,8 @@ feed-requires t c κs =
     let z = plan t s in
     let b = forked t both in (
       z .few-ins,
-      omega (arith, begun .round .kept .0, both .fork .kept .1 .1 .1 .1 .0),
-      omega arith,
+      rec-feed z _ _ (s .pre .1 .0 .room) b _ (both .fork .kept .1 .1 .1 .1 .0 ∙ begun .round .kept .0),
+      rec-front z _ _ (s .pre .1 .0 .room) b,
       b .no,
     )
 
