@@ -1,6 +1,6 @@
--- Law: where there is room for an Ite or a Rec, there is room for each of its parts, at the places that the code counts. `blocks::ite`
--- and `blocks::rec` cite this. Assumes nothing.
-use Prim.Native.Nat.{ℕ, _+_, _*_, _≤_}
+-- Law: where there is room for a term, there is room for each of its parts, at the places that the code counts; and the measure falls
+-- from a term to its operands. `blocks` cites this. Assumes nothing.
+use Prim.Native.Nat.{ℕ, _+_, _*_, _≤_, _<_}
 use mathlib.Core.Path.{_≡_}
 use mathlib.Core.List.{List}
 use native.Mathlib.Omega.{arith}
@@ -25,6 +25,78 @@ twice-few h = omega arith
 
 pub four-few : {n : ℕ} → n ≤ 16 → 4 * n ≤ 4096
 four-few h = omega arith
+
+-- From a term k to an operand f: from the function of its kind, and from `fork`.
+pub falls-kind : {f k m : ℕ} → f < k → 3 * k + 1 ≡ m → 3 * f + 2 < m
+falls-kind l e = omega arith
+
+pub falls-fork : {f k m : ℕ} → f < k → 3 * k ≡ m → 3 * f + 2 < m
+falls-fork l e = omega arith
+
+-- Seq, of parts of f and g cells, whose answers' next places are a and b.
+module _ (f g : ℕ) (net : List ℕ) (p n : ℕ) (n-is : n ≡ f + g + 4) (r : Room net p n) where
+  pub seq-first : Room net p f
+  seq-first = omega arith
+
+  module _ (a : ℕ) (a-is : a ≡ p + f) where
+    pub seq-mid : a + 3 ≤ 4096
+    seq-mid = omega arith
+
+    pub seq-mid-2 : a + 2 ≤ 4096
+    seq-mid-2 = omega arith
+
+    pub seq-rise : (new : List ℕ) → length new ≡ length net → Room new a 3
+    seq-rise new e = omega arith
+
+    pub seq-second : (new : List ℕ) → length new ≡ length net → Room new (a + 3) g
+    seq-second new e = omega arith
+
+    module _ (b : ℕ) (b-is : b ≡ a + 3 + g) where
+      pub seq-next : b + 1 ≤ 4096
+      seq-next = omega arith
+
+      pub seq-last : (new : List ℕ) → length new ≡ length net → Room new b 1
+      seq-last new e = omega arith
+
+-- Par.
+module _ (f g : ℕ) (net : List ℕ) (p n : ℕ) (n-is : n ≡ f + g + 1) (r : Room net p n) where
+  pub par-first : Room net p f
+  par-first = omega arith
+
+  module _ (a : ℕ) (a-is : a ≡ p + f) where
+    pub par-second : (new : List ℕ) → length new ≡ length net → Room new a g
+    par-second new e = omega arith
+
+    module _ (b : ℕ) (b-is : b ≡ a + g) where
+      pub par-next : b + 1 ≤ 4096
+      par-next = omega arith
+
+      pub par-last : (new : List ℕ) → length new ≡ length net → Room new b 1
+      par-last new e = omega arith
+
+-- A test of e cells with branches of f and g.
+module _ (e f g : ℕ) (net : List ℕ) (p : ℕ) (r : Room net p (e + 7 + f + g)) where
+  pub fork-test : Room net p e
+  fork-test = omega arith
+
+  module _ (a : ℕ) (a-is : a ≡ p + e) where
+    pub fork-seven : a + 7 ≤ 4096
+    fork-seven = omega arith
+
+    pub fork-five : a + 5 ≤ 4096
+    fork-five = omega arith
+
+    pub fork-six : a + 6 ≤ 4096
+    fork-six = omega arith
+
+    pub fork-gates : (new : List ℕ) → length new ≡ length net → Room new a 7
+    fork-gates new q = omega arith
+
+    pub fork-yes : (new : List ℕ) → length new ≡ length net → Room new (a + 7) f
+    fork-yes new q = omega arith
+
+    pub fork-no : (b : ℕ) → b ≡ a + 7 + f → (new : List ℕ) → length new ≡ length net → Room new b g
+    fork-no b b-is new q = omega arith
 
 -- The cells of a test with its branches.
 abbrev pub forkSize : List ℕ → ℕ → ℕ

@@ -1,4 +1,4 @@
--- Proof: the needs of `blocks::fork`. Mathematics in `proofs.Plans` and `proofs.Forking`. Assumes nothing.
+-- Proof: the needs of `blocks::fork`. Mathematics in `proofs.Plans`, `Rooms` and `Forking`. Assumes nothing.
 use Prim.Native.Nat.{ℕ, _+_}
 use mathlib.Core.Path.{_∙_}
 use native.Mathlib.Omega.{arith}
@@ -8,6 +8,7 @@ use Rattle.pieces.specs.Writing.{Room}
 use Rattle.compiler.specs.Building.{Known}
 use Rattle.compiler.proofs.Forking.{forks}
 use Rattle.compiler.proofs.Plans.{inside, ForkPlan, fork-plan, fork-room}
+use Rattle.compiler.proofs.Rooms.{place-fits, falls-fork, fork-test, fork-seven, fork-five, fork-six, fork-gates, fork-yes, fork-no}
 use Rattle.compiler.proofs.blocks.+emit+fork+ite+par+rec+seq.Proof.Members.{fork-at, fork-calls}
 use Rattle.compiler.proofs.blocks.fork.Reads as reads
 use Rattle.compiler.proofs.blocks.+emit+fork+ite+par+rec+seq.Lts-fork as lts
@@ -51,8 +52,14 @@ emit-requires t c κs =
     let ops = c .before .before in
     let z = plan t ops in
     let s = entry t ops in
-    let y = room t ops in
-    (omega (arith, s .pre .0), record { known = z .test .known; room = omega arith; sixteen = s .pre .1 .sixteen .0 })
+    let y = room t ops in (
+      falls-fork (z .test .below) (s .pre .0),
+      record {
+        known = z .test .known;
+        room = fork-test _ _ _ _ _ y;
+        sixteen = s .pre .1 .sixteen .0;
+      },
+    )
 
 pub element-copy-out-gates : (t : ℕ) → lts.Need-element-copy-out-gates (fork-calls t) (fork-at t) reads.Post
 element-copy-out-gates t c = omega arith
@@ -61,19 +68,19 @@ pub gates-requires : (t : ℕ) → lts.Need-gates-requires (fork-calls t) (fork-
 gates-requires t c κs =
     let test = c .before .before .before .before in
     let y = room t (test .before .before .before) in
-    omega (arith, test .emit .ensures .next, test .emit .kept .1 .1 .1 .1 .0)
+    fork-gates _ _ _ _ _ y _ (test .emit .ensures .next) _ (test .emit .kept .1 .1 .1 .1 .0)
 
 pub add-emit : (t : ℕ) → lts.Need-add-emit (fork-calls t) (fork-at t) reads.Post
 add-emit t c =
     let test = c .before .before .before .before .before .before .before .before .before in
     let y = room t (test .before .before .before) in
-    omega (arith, test .emit .ensures .next)
+    place-fits _ (fork-seven _ _ _ _ _ y _ (test .emit .ensures .next))
 
 pub add-emit-2 : (t : ℕ) → lts.Need-add-emit-2 (fork-calls t) (fork-at t) reads.Post
 add-emit-2 t c =
     let test = c .before .before .before .before .before .before .before .before .before in
     let y = room t (test .before .before .before) in
-    omega (arith, test .emit .ensures .next)
+    place-fits _ (fork-five _ _ _ _ _ y _ (test .emit .ensures .next))
 
 pub emit-requires-2 : (t : ℕ) → lts.Need-emit-requires-2 (fork-calls t) (fork-at t) reads.Post
 emit-requires-2 t c κs =
@@ -83,10 +90,10 @@ emit-requires-2 t c κs =
     let z = plan t ops in
     let s = entry t ops in
     let y = room t ops in (
-      omega (arith, s .pre .0),
+      falls-fork (z .yes .below) (s .pre .0),
       record {
         known = z .yes .known;
-        room = omega (arith, test .emit .ensures .next, test .emit .kept .1 .1 .1 .1 .0, gated .gates .kept .0);
+        room = fork-yes _ _ _ _ _ y _ (test .emit .ensures .next) _ (gated .gates .kept .0 ∙ test .emit .kept .1 .1 .1 .1 .0);
         sixteen = s .pre .1 .sixteen .1;
       },
     )
@@ -95,7 +102,7 @@ pub add-emit-3 : (t : ℕ) → lts.Need-add-emit-3 (fork-calls t) (fork-at t) re
 add-emit-3 t c =
     let test = c .before .before .before .before .before .before .before .before .before .before .before .before .before .before in
     let y = room t (test .before .before .before) in
-    omega (arith, test .emit .ensures .next)
+    place-fits _ (fork-six _ _ _ _ _ y _ (test .emit .ensures .next))
 
 pub emit-requires-3 : (t : ℕ) → lts.Need-emit-requires-3 (fork-calls t) (fork-at t) reads.Post
 emit-requires-3 t c κs =
@@ -106,17 +113,11 @@ emit-requires-3 t c κs =
     let z = plan t ops in
     let s = entry t ops in
     let y = room t ops in (
-      omega (arith, s .pre .0),
+      falls-fork (z .no .below) (s .pre .0),
       record {
         known = z .no .known;
-        room = omega (
-          arith,
-          test .emit .ensures .next,
-          test .emit .kept .1 .1 .1 .1 .0,
-          gated .gates .kept .0,
-          yes .emit2 .ensures .next,
-          yes .emit2 .kept .1 .1 .1 .1 .0,
-        );
+        room = fork-no _ _ _ _ _ y _ (test .emit .ensures .next) _ (yes .emit2 .ensures .next) _
+            (yes .emit2 .kept .1 .1 .1 .1 .0 ∙ (gated .gates .kept .0 ∙ test .emit .kept .1 .1 .1 .1 .0));
         sixteen = s .pre .1 .sixteen .1;
       },
     )

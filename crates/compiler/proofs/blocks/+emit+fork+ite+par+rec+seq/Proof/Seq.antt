@@ -1,10 +1,11 @@
--- Proof: the needs of `blocks::seq`. Mathematics in `proofs.Plans` and `proofs.Pairs`. Assumes nothing.
+-- Proof: the needs of `blocks::seq`. Mathematics in `proofs.Plans`, `Rooms` and `Pairs`. Assumes nothing.
 use Prim.Native.Nat.{ℕ}
 use mathlib.Core.Path.{_∙_}
 use native.Mathlib.Omega.{arith}
 use Rattle.compiler.specs.Building.{Known}
 use Rattle.compiler.proofs.Pairs.{handed-long, seq-emits}
 use Rattle.compiler.proofs.Plans.{inside, SeqPlan, seq-plan}
+use Rattle.compiler.proofs.Rooms.{place-fits, falls-kind, seq-first, seq-mid, seq-mid-2, seq-rise, seq-second, seq-next, seq-last}
 use Rattle.compiler.proofs.blocks.+emit+fork+ite+par+rec+seq.Proof.Members.{seq-at, seq-calls}
 use Rattle.compiler.proofs.blocks.seq.Reads as reads
 use Rattle.compiler.proofs.blocks.+emit+fork+ite+par+rec+seq.Lts-seq as lts
@@ -37,8 +38,14 @@ pub emit-requires : (t : ℕ) → lts.Need-emit-requires (seq-calls t) (seq-at t
 emit-requires t c κs =
     let ops = c .before .before in
     let z = plan t ops in
-    let s = entry t ops in
-    (omega (arith, s .pre .0), record { known = z .first .known; room = omega arith; sixteen = s .pre .1 .0 .sixteen })
+    let s = entry t ops in (
+      falls-kind (z .first .below) (s .pre .0),
+      record {
+        known = z .first .known;
+        room = seq-first _ _ _ _ _ (z .sizes) (s .pre .1 .0 .room);
+        sixteen = s .pre .1 .0 .sixteen;
+      },
+    )
 
 pub rise-requires : (t : ℕ) → lts.Need-rise-requires (seq-calls t) (seq-at t) reads.Post
 rise-requires t c κs =
@@ -46,7 +53,7 @@ rise-requires t c κs =
     let ops = first .before .before .before in
     let z = plan t ops in
     let s = entry t ops in
-    omega (arith, first .emit .ensures .next, first .emit .kept .1 .1 .1 .1 .0)
+    seq-rise _ _ _ _ _ (z .sizes) (s .pre .1 .0 .room) _ (first .emit .ensures .next) _ (first .emit .kept .1 .1 .1 .1 .0)
 
 pub add-emit : (t : ℕ) → lts.Need-add-emit (seq-calls t) (seq-at t) reads.Post
 add-emit t c =
@@ -54,7 +61,7 @@ add-emit t c =
     let ops = first .before .before .before in
     let z = plan t ops in
     let s = entry t ops in
-    omega (arith, first .emit .ensures .next)
+    place-fits _ (seq-mid _ _ _ _ _ (z .sizes) (s .pre .1 .0 .room) _ (first .emit .ensures .next))
 
 pub add-emit-2 : (t : ℕ) → lts.Need-add-emit-2 (seq-calls t) (seq-at t) reads.Post
 add-emit-2 t c =
@@ -62,7 +69,7 @@ add-emit-2 t c =
     let ops = first .before .before .before in
     let z = plan t ops in
     let s = entry t ops in
-    omega (arith, first .emit .ensures .next)
+    place-fits _ (seq-mid-2 _ _ _ _ _ (z .sizes) (s .pre .1 .0 .room) _ (first .emit .ensures .next))
 
 pub emit-requires-2 : (t : ℕ) → lts.Need-emit-requires-2 (seq-calls t) (seq-at t) reads.Post
 emit-requires-2 t c κs =
@@ -71,10 +78,11 @@ emit-requires-2 t c κs =
     let ops = first .before .before .before in
     let z = plan t ops in
     let s = entry t ops in (
-      omega (arith, s .pre .0),
+      falls-kind (z .second .below) (s .pre .0),
       record {
         known = z .second .known;
-        room = omega (arith, first .emit .ensures .next, first .emit .kept .1 .1 .1 .1 .0, risen .rise .kept .0);
+        room = seq-second _ _ _ _ _ (z .sizes) (s .pre .1 .0 .room) _ (first .emit .ensures .next) _
+            (risen .rise .kept .0 ∙ first .emit .kept .1 .1 .1 .1 .0);
         sixteen = handed-long (z .first .typed) _ _ _ (s .pre .1 .0 .sixteen) (first .emit .ensures);
       },
     )
@@ -87,14 +95,8 @@ put-requires t c κs =
     let ops = first .before .before .before in
     let z = plan t ops in
     let s = entry t ops in
-    omega (
-      arith,
-      first .emit .ensures .next,
-      second .emit2 .ensures .next,
-      first .emit .kept .1 .1 .1 .1 .0,
-      risen .rise .kept .0,
-      second .emit2 .kept .1 .1 .1 .1 .0,
-    )
+    seq-last _ _ _ _ _ (z .sizes) (s .pre .1 .0 .room) _ (first .emit .ensures .next) _ (second .emit2 .ensures .next) _
+    (second .emit2 .kept .1 .1 .1 .1 .0 ∙ (risen .rise .kept .0 ∙ first .emit .kept .1 .1 .1 .1 .0))
 
 pub add-t24 : (t : ℕ) → lts.Need-add-t24 (seq-calls t) (seq-at t) reads.Post
 add-t24 t c =
@@ -103,7 +105,7 @@ add-t24 t c =
     let ops = first .before .before .before in
     let z = plan t ops in
     let s = entry t ops in
-    omega (arith, first .emit .ensures .next, second .emit2 .ensures .next)
+    place-fits _ (seq-next _ _ _ _ _ (z .sizes) (s .pre .1 .0 .room) _ (first .emit .ensures .next) _ (second .emit2 .ensures .next))
 
 pub same-length : (t : ℕ) → lts.Need-same-length (seq-calls t) (seq-at t) reads.Post
 same-length t c =
