@@ -12,7 +12,6 @@ use meaning::Verdict;
 ghost use mathlib.Core.Path.{_≡_};
 ghost use Prim.Native.Nat.{_<_};
 ghost use lib.ListN.{length};
-ghost use Rattle.meaning.specs.Checks.{widthFits};
 ghost use Rattle.circuit.specs.Cells.{stride, cellNumber, kindAt, cellCount};
 ghost use Rattle.circuit.specs.Netlists.{netlistFits, netlistVerdict};
 
@@ -44,15 +43,8 @@ pub fn count(netlist: &[u32]) -> usize
     netlist.len() / STRIDE
 }
 
-// 1: the width is 1 to 32.
-fn width_fits(width: u32) -> bool
-    ensures { λ r. ⌜ r ≡ widthFits width ⌝ }
-{
-    1 <= width && width <= 32
-}
-
 // 12: there are cells, whole ones, and no more than fit.
-fn netlist_fits(netlist: &[u32]) -> bool
+pub fn netlist_fits(netlist: &[u32]) -> bool
     ensures { λ r. ⌜ r ≡ netlistFits (now (netlist .entry)) ⌝ }
 {
     let len = netlist.len();
@@ -63,7 +55,7 @@ fn netlist_fits(netlist: &[u32]) -> bool
 pub fn check(width: u32, netlist: &[u32]) -> Verdict
     ensures { λ r. ⌜ r ≡ netlistVerdict width (now (netlist .entry)) ⌝ }
 {
-    if !width_fits(width) {
+    if !words::width_fits(width) {
         return Verdict::Refused(1, 0);
     }
     if !netlist_fits(netlist) {

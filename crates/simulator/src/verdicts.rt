@@ -3,10 +3,10 @@
 use meaning::Verdict;
 ghost use mathlib.Core.Path.{_≡_};
 ghost use mathlib.Core.Bool.{true};
-ghost use Prim.Native.Nat.{_≤_, _<_, _^_};
+ghost use Prim.Native.Nat.{_≤_, _<_};
 ghost use lib.Dec.{eqb, ltb};
 ghost use lib.ListN.{length};
-ghost use Rattle.meaning.specs.Choices.{pick, allBelow};
+ghost use Rattle.meaning.specs.Choices.{pick};
 ghost use Rattle.meaning.specs.Checks.{firstRefusal};
 ghost use Rattle.circuit.specs.Cells.{cellNumber, kindAt, cellCount};
 ghost use Rattle.circuit.specs.Simulated.{
@@ -47,21 +47,6 @@ fn inputs_given(netlist: &[u32], given: usize) -> bool
     true
 }
 
-// Every word is below 2 ^ width.
-fn words_fit(width: u32, words: &[u32]) -> bool
-    requires { ⌜ width ≤ 32 ⌝ }
-    ensures { λ r. ⌜ r ≡ allBelow (2 ^ width) (now (words .entry)) ⌝ }
-{
-    let mut j: usize = 0;
-    while j < words.len() {
-        if !words::fits(width, words[j]) {
-            return false;
-        }
-        j = j + 1;
-    }
-    true
-}
-
 // 11: at most 16 words, all that the input cells name, each below 2 ^ width.
 fn inputs(width: u32, netlist: &[u32], words: &[u32]) -> Verdict
     requires { ⌜ width ≤ 32 ⌝ }
@@ -74,7 +59,7 @@ fn inputs(width: u32, netlist: &[u32], words: &[u32]) -> Verdict
     if !inputs_given(netlist, given) {
         return Verdict::Refused(11, 0);
     }
-    if !words_fit(width, words) {
+    if !words::all_fit(width, words) {
         return Verdict::Refused(11, 0);
     }
     Verdict::Accepted
@@ -130,11 +115,15 @@ pub fn power_up(width: u32, netlist: &[u32], words: &[u32], room: usize) -> Verd
     inputs(width, netlist, words)
 }
 
-// At a step: 1, 12 to 16, 17 of both buffers, 18 and 11.
+// At a step: 1, 12 to 16, 17 of both buffers, 18 and 11. One look a cell tells whether there is a
+// refusal to be named.
 pub fn step(width: u32, netlist: &[u32], before: &[u32], words: &[u32], room: usize) -> Verdict
     ensures { λ r. ⌜ r ≡ stepVerdict width (now (netlist .entry)) (now (before .entry))
         (now (words .entry)) room ⌝ }
 {
+    if glance::step(width, netlist, before, words, room) {
+        return Verdict::Accepted;
+    }
     let checked = cells::check(width, netlist);
     let Verdict::Accepted = checked else {
         return checked;

@@ -31,7 +31,7 @@ fn past(width: u32) -> u64
 }
 
 // The largest word of a width: all its bits.
-fn ones(width: u32) -> u32
+pub fn ones(width: u32) -> u32
     requires { ⌜ width ≤ 32 ⌝ }
     ensures { λ r. ⌜ r ≡ 2 ^ width - 1 ⌝ }
 {

@@ -31,22 +31,22 @@ returns-2 c =
     word-missing (a .width) (a .netlist .now) (a .words .now) (le-leb _ _ (c .before .before .if1 .left))
     (sym (c .before .inputs-given .ensures) ∙ not-true _ (c .if2 .taken))
 
-words-fit-requires : tie.Need-words-fit-requires
-words-fit-requires c κs = search needs
+all-fit-requires : tie.Need-all-fit-requires
+all-fit-requires c κs = search needs
 
 returns-3 : tie.Need-returns-3
 returns-3 c =
     let a = c .before .before .before .before .before .before .before .args in
     words-judged (a .width) (a .netlist .now) (a .words .now)
-    (few (c .before .before)) (named (c .before .before)) false (sym (c .before .words-fit .ensures) ∙ not-true _ (c .if3 .taken))
+    (few (c .before .before)) (named (c .before .before)) false (sym (c .before .all-fit .ensures) ∙ not-true _ (c .if3 .taken))
 
 returns-4 : tie.Need-returns-4
 returns-4 c =
     let a = c .before .before .before .before .before .before .before .args in
     words-judged (a .width) (a .netlist .now) (a .words .now)
-    (few (c .before .before)) (named (c .before .before)) true (sym (c .before .words-fit .ensures) ∙ not-false _ (c .if3 .left))
+    (few (c .before .before)) (named (c .before .before)) true (sym (c .before .all-fit .ensures) ∙ not-false _ (c .if3 .left))
 
 pub inputs-spec : {M : Type 1} → statement M
 inputs-spec =
     tie.close
-    (tie.spec returns inputs-given-requires returns-2 words-fit-requires returns-3 returns-4)
+    (tie.spec returns inputs-given-requires returns-2 all-fit-requires returns-3 returns-4)

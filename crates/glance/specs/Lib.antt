@@ -1,0 +1,2 @@
+-- What one look at a cell tells. Definitions only.
+pub mod Sound
