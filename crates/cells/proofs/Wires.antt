@@ -1,20 +1,19 @@
 -- Law: which wires a cell reads that has passed the checks, by the ports of its kind. The simulator and the writers cite it.
 -- Assumes nothing.
 use Prim.Native.Nat.{ℕ, suc, _≤_, _<_}
-use mathlib.Core.Path.{_≡_, refl, sym, ap, _∙_}
+use mathlib.Core.Path.{_≡_, refl}
 use mathlib.Core.Bool.{Bool, true, false}
 use mathlib.Core.List.{List}
 use mathlib.Core.Logic.{inl, inr}
 use native.Mathlib.Omega.{arith}
-use lib.Dec.{eqb, leb, ltb}
-use borrow.Author.Tests.{ltb-true, lt-ltb, le-ltb, leb-true, eqb-true, ne-eqb}
+use borrow.Author.Tests.{ltb-true, leb-true, eqb-true}
 use Rattle.circuit.specs.declared.Port.{Port}
 use Rattle.circuit.specs.declared.Port.the-variants as port
-use Rattle.meaning.specs.Choices.{pick, and, or}
-use Rattle.meaning.specs.Words.{arity}
+use Rattle.meaning.specs.Choices.{and}
 use Rattle.meaning.proofs.Tests.{clash, split, both, either}
-use Rattle.circuit.specs.Cells.{cellNumber, kindAt, cellCount, Ports, ports, portsOf, bitKind, wordKind}
+use Rattle.circuit.specs.Cells.{cellNumber, kindAt, cellCount, Ports, ports, portsOf}
 use Rattle.circuit.specs.Netlists.{numberFits, wireFits}
+use Rattle.circuit.proofs.Refusals.{two-ports, one-port}
 use Rattle.cells.proofs.Ports.{each}
 use Rattle.cells.proofs.Passed.{Passed}
 
@@ -54,31 +53,6 @@ later n cells port.Bit v h t = clash false h refl
 later n cells port.Word v h t = clash false h refl
 later n cells port.LaterBit v h t = ltb-true v cells t
 later n cells port.LaterWord v h t = ltb-true v cells t
-
--- The operations share a row of ports.
-pub operation-ports : (k : ℕ) → 13 ≤ k → portsOf k ≡
-    pick (eqb (arity k) 2) (ports port.Word port.Word port.Unused) (ports port.Word port.Unused port.Unused)
-unfolding portsOf
-operation-ports k l = rw (
-  ne-eqb k 0 (λ e. omega arith),
-  ne-eqb k 1 (λ e. omega arith),
-  ne-eqb k 2 (λ e. omega arith),
-  ne-eqb k 3 (λ e. omega arith),
-  ne-eqb k 4 (λ e. omega arith),
-  ne-eqb k 5 (λ e. omega arith),
-  ne-eqb k 6 (λ e. omega arith),
-  ne-eqb k 8 (λ e. omega arith),
-  ne-eqb k 9 (λ e. omega arith),
-  ne-eqb k 10 (λ e. omega arith),
-  ne-eqb k 11 (λ e. omega arith),
-  ne-eqb k 12 (λ e. omega arith),
-)
-
-two-ports : (k : ℕ) → 13 ≤ k → k < 20 → portsOf k ≡ ports port.Word port.Word port.Unused
-two-ports k l h = operation-ports k l ∙ rw (lt-ltb k 20 h)
-
-one-port : (k : ℕ) → 20 ≤ k → portsOf k ≡ ports port.Word port.Unused port.Unused
-one-port k h = operation-ports k (omega arith) ∙ rw (le-ltb k 20 h)
 
 past : (a : ℕ) {k : ℕ} → a ≤ k → (k ≡ a → ⊥) → suc a ≤ k
 past a l f = omega arith

@@ -6,24 +6,13 @@ use mathlib.Core.List.{List}
 use mathlib.Core.Logic.{inl, inr}
 use native.Mathlib.Omega.{arith}
 use lib.Dec.{eqb}
-use borrow.Author.Tests.{ltb-true, lt-ltb, le-ltb, ne-eqb}
+use borrow.Author.Tests.{lt-ltb, le-ltb, ne-eqb}
 use Rattle.meaning.specs.Choices.{and}
 use Rattle.meaning.specs.Terms.{numberOf}
 use Rattle.meaning.specs.Checks.{operandsOf, operandsBelow}
-use Rattle.meaning.proofs.Tests.{split, by-test, both}
+use Rattle.meaning.proofs.Tests.{split, by-test}
 
 module _ (t : List ℕ) (k : ℕ) where
-  -- Operands that pass are below their term.
-  pub below-at : (n : ℕ) → operandsBelow t k n ≡ true → (j : ℕ) → 1 ≤ j → j ≤ n → numberOf t k j < k
-  unfolding operandsBelow
-  below-at zero h j l u = absurd (omega arith)
-  below-at (suc n) h j l u =
-      let p = both _ _ h in
-      elim (split j (suc n)) [
-        | inl a ↦ below-at n (p .0) j l (omega arith)
-        | inr a ↦ (let e : j ≡ suc n = omega arith in rw e (ltb-true _ _ (p .1)))
-      ]
-
   -- Where all are below, the check passes.
   pub all-below : (n : ℕ) → ((j : ℕ) → 1 ≤ j → j ≤ n → numberOf t k j < k) → operandsBelow t k n ≡ true
   unfolding operandsBelow

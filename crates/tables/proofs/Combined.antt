@@ -11,10 +11,11 @@ use Rattle.meaning.specs.Terms.{numberOf, kindOf, Term}
 use Rattle.meaning.specs.Counts.{ins, outs, size, capped}
 use Rattle.meaning.specs.Checks.{operandsOf, operandTree, countsFit, parSmall}
 use Rattle.meaning.proofs.Decoded.{tree-seq, tree-par, tree-ite, tree-rec, tree-leaf}
+use Rattle.meaning.proofs.Accepted.{operand-below}
 use Rattle.shapes.specs.declared.Known.{Known}
 use Rattle.shapes.specs.Shapes.{knownOf, Small, seqShape, parShape, iteShape, recShape, leafShape}
 use Rattle.tables.specs.Readings.{readAt, shapeOf, Ready}
-use Rattle.kinds.proofs.Joining.{below-at, seq-operands, par-operands, ite-operands, rec-operands, few-operands, none-joined}
+use Rattle.kinds.proofs.Joining.{seq-operands, par-operands, ite-operands, rec-operands, few-operands, none-joined}
 
 -- A sum of capped sizes is capped as the sum of the sizes.
 capped-two : (a b c : ℕ) → capped (capped a + capped b + c) ≡ capped (a + b + c)
@@ -34,7 +35,7 @@ module _ {t : List ℕ} {k : ℕ} {i o s : List ℕ} (R : Ready t k i o s) where
   -- An operand: where it stands, and what is read of it.
   module _ (j : ℕ) (l : 1 ≤ j) (u : j ≤ operandsOf (kindOf t k)) where
     pub operand-low : numberOf t k j < k
-    operand-low = below-at t k (operandsOf (kindOf t k)) (R .below) j l u
+    operand-low = operand-below t k (operandsOf (kindOf t k)) (R .below) j l u
 
     pub readable : (j < 4) × (k * 4 + 4 ≤ length t) × (numberOf t k j < 256)
     readable = (omega (arith, few-operands (kindOf t k)), R .inside, omega (arith, operand-low, R .few))
