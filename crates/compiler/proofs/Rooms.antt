@@ -42,9 +42,6 @@ module _ (f g : ℕ) (net : List ℕ) (p n : ℕ) (n-is : n ≡ f + g + 4) (r : 
     pub seq-mid : a + 3 ≤ 4096
     seq-mid = omega arith
 
-    pub seq-mid-2 : a + 2 ≤ 4096
-    seq-mid-2 = omega arith
-
     pub seq-rise : (new : List ℕ) → length new ≡ length net → Room new a 3
     seq-rise new e = omega arith
 
@@ -57,22 +54,6 @@ module _ (f g : ℕ) (net : List ℕ) (p n : ℕ) (n-is : n ≡ f + g + 4) (r : 
 
       pub seq-last : (new : List ℕ) → length new ≡ length net → Room new b 1
       seq-last new e = omega arith
-
--- Par.
-module _ (f g : ℕ) (net : List ℕ) (p n : ℕ) (n-is : n ≡ f + g + 1) (r : Room net p n) where
-  pub par-first : Room net p f
-  par-first = omega arith
-
-  module _ (a : ℕ) (a-is : a ≡ p + f) where
-    pub par-second : (new : List ℕ) → length new ≡ length net → Room new a g
-    par-second new e = omega arith
-
-    module _ (b : ℕ) (b-is : b ≡ a + g) where
-      pub par-next : b + 1 ≤ 4096
-      par-next = omega arith
-
-      pub par-last : (new : List ℕ) → length new ≡ length net → Room new b 1
-      par-last new e = omega arith
 
 -- A test of e cells with branches of f and g.
 module _ (e f g : ℕ) (net : List ℕ) (p : ℕ) (r : Room net p (e + 7 + f + g)) where

@@ -6,6 +6,7 @@ use Rattle.meaning.specs.Terms.{tree}
 use Rattle.meaning.specs.Counts.{size}
 use Rattle.pieces.specs.Writing.{Room}
 use Rattle.compiler.specs.Building.{Known}
+use Rattle.compiler.proofs.Pairs.{handed-long}
 use Rattle.compiler.proofs.Forking.{forks}
 use Rattle.compiler.proofs.Plans.{inside, ForkPlan, fork-plan, fork-room}
 use Rattle.compiler.proofs.Rooms.{place-fits, falls-fork, fork-test, fork-seven, fork-five, fork-six, fork-gates, fork-yes, fork-no}
@@ -94,7 +95,11 @@ emit-requires-2 t c κs =
       record {
         known = z .yes .known;
         room = fork-yes _ _ _ _ _ y _ (test .emit .ensures .next) _ (gated .gates .kept .0 ∙ test .emit .kept .1 .1 .1 .1 .0);
-        sixteen = s .pre .1 .sixteen .1;
+        sixteen = omega (
+          arith,
+          s .pre .1 .sixteen .1,
+          handed-long (z .test .typed) _ _ _ (s .pre .1 .sixteen .0) (test .emit .ensures),
+        );
       },
     )
 

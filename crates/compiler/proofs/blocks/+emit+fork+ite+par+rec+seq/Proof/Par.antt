@@ -5,7 +5,7 @@ use native.Mathlib.Omega.{arith}
 use Rattle.compiler.specs.Building.{Known}
 use Rattle.compiler.proofs.Pairs.{handed-long, par-emits}
 use Rattle.compiler.proofs.Plans.{inside, indexed, ParPlan, par-plan}
-use Rattle.compiler.proofs.Rooms.{place-fits, falls-kind, par-first, par-second, par-next, par-last}
+use Rattle.compiler.proofs.Rooms.{falls-kind}
 use Rattle.compiler.proofs.blocks.+emit+fork+ite+par+rec+seq.Proof.Members.{par-at, par-calls}
 use Rattle.compiler.proofs.blocks.par.Reads as reads
 use Rattle.compiler.proofs.blocks.+emit+fork+ite+par+rec+seq.Lts-par as lts
@@ -42,7 +42,7 @@ emit-requires t c κs =
       falls-kind (z .first .below) (s .pre .0),
       record {
         known = z .first .known;
-        room = par-first _ _ _ _ _ (z .sizes) (s .pre .1 .0 .room);
+        room = omega arith;
         sixteen = s .pre .1 .0 .sixteen;
       },
     )
@@ -56,7 +56,7 @@ emit-requires-2 t c κs =
       falls-kind (z .second .below) (s .pre .0),
       record {
         known = z .second .known;
-        room = par-second _ _ _ _ _ (z .sizes) (s .pre .1 .0 .room) _ (first .emit .ensures .next) _ (first .emit .kept .1 .1 .1 .1 .0);
+        room = omega (arith, first .emit .ensures .next, first .emit .kept .1 .1 .1 .1 .0);
         sixteen = s .pre .1 .0 .sixteen;
       },
     )
@@ -68,8 +68,13 @@ put-requires t c κs =
     let ops = first .before .before .before .before in
     let z = plan t ops in
     let s = entry t ops in
-    par-last _ _ _ _ _ (z .sizes) (s .pre .1 .0 .room) _ (first .emit .ensures .next) _ (second .emit2 .ensures .next) _
-    (second .emit2 .kept .1 .1 .1 .1 .0 ∙ first .emit .kept .1 .1 .1 .1 .0)
+    omega (
+      arith,
+      first .emit .ensures .next,
+      second .emit2 .ensures .next,
+      first .emit .kept .1 .1 .1 .1 .0,
+      second .emit2 .kept .1 .1 .1 .1 .0,
+    )
 
 -- What stands when the rows are joined.
 module _ (t : ℕ) (c : lts.After-put (par-calls t) (par-at t) reads.Post) where
@@ -113,8 +118,7 @@ add-t29 t c =
     let last = c .before .before .before .before .before .before .before in
     let z = plan t (named t last) in
     let s = entry t (named t last) in
-    place-fits _ (par-next _ _ _ _ _ (z .sizes) (s .pre .1 .0 .room) _ (at-first t last .emit .ensures .next) _
-    (at-second t last .emit2 .ensures .next))
+    omega (arith, at-first t last .emit .ensures .next, at-second t last .emit2 .ensures .next)
 
 pub same-length : (t : ℕ) → lts.Need-same-length (par-calls t) (par-at t) reads.Post
 same-length t c =

@@ -5,7 +5,7 @@ use native.Mathlib.Omega.{arith}
 use Rattle.compiler.specs.Building.{Known}
 use Rattle.compiler.proofs.Pairs.{handed-long, seq-emits}
 use Rattle.compiler.proofs.Plans.{inside, SeqPlan, seq-plan}
-use Rattle.compiler.proofs.Rooms.{place-fits, falls-kind, seq-first, seq-mid, seq-mid-2, seq-rise, seq-second, seq-next, seq-last}
+use Rattle.compiler.proofs.Rooms.{place-fits, falls-kind, seq-first, seq-mid, seq-rise, seq-second, seq-next, seq-last}
 use Rattle.compiler.proofs.blocks.+emit+fork+ite+par+rec+seq.Proof.Members.{seq-at, seq-calls}
 use Rattle.compiler.proofs.blocks.seq.Reads as reads
 use Rattle.compiler.proofs.blocks.+emit+fork+ite+par+rec+seq.Lts-seq as lts
@@ -69,7 +69,7 @@ add-emit-2 t c =
     let ops = first .before .before .before in
     let z = plan t ops in
     let s = entry t ops in
-    place-fits _ (seq-mid-2 _ _ _ _ _ (z .sizes) (s .pre .1 .0 .room) _ (first .emit .ensures .next))
+    omega (arith, first .emit .ensures .next)
 
 pub emit-requires-2 : (t : ℕ) → lts.Need-emit-requires-2 (seq-calls t) (seq-at t) reads.Post
 emit-requires-2 t c κs =
