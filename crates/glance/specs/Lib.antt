@@ -1,2 +1,3 @@
--- What one look at a cell tells. Definitions only.
+-- What one look at a cell asks and tells. Definitions only.
+pub mod Asked
 pub mod Sound

@@ -1,51 +1,70 @@
-// One cell and its wire, a row a kind. Document 01: "Cells", "Refusal numbers".
+// One cell and its wire, by the row of its kind: what its wire shows, at most `top`, and then its
+// numbers. Document 01: "Cells", "Refusal numbers".
 ghost use mathlib.Core.Path.{_≡_};
 ghost use mathlib.Core.Bool.{true};
 ghost use Prim.Native.Nat.{_≤_, _<_};
-ghost use lib.Dec.{eqb, ltb, leb};
+ghost use lib.Dec.{leb};
 ghost use Rattle.meaning.specs.Choices.{and};
-ghost use Rattle.circuit.specs.Cells.{kindAt, cellCount};
+ghost use Rattle.circuit.specs.Cells.{cellCount};
+ghost use Rattle.glance.specs.Asked as asked;
 ghost use Rattle.glance.specs.Sound.{Sound};
 
-// Wire v is one of the first m, and a bit.
-fn bit_below(netlist: &[u32], m: usize, v: u32) -> bool
+// Wire v is one of the first m, and a word or a bit as is due.
+fn below(netlist: &[u32], m: usize, word: bool, v: u32) -> bool
     requires { ⌜ m ≤ cellCount (now netlist) ⌝ }
-    ensures { λ r. ⌜ r ≡ and (ltb v m) (leb (kindAt (now (netlist .entry)) v) 6) ⌝ }
+    ensures { λ r. ⌜ r ≡ asked.below (now (netlist .entry)) m word v ⌝ }
 {
-    (v as usize) < m && cells::kind(netlist, v as usize) <= 6
+    if m <= (v as usize) {
+        return false;
+    }
+    let kind = cells::kind(netlist, v as usize);
+    if word { 8 <= kind } else { kind <= 6 }
 }
 
-// Wire v is one of the first m, and a word.
-fn word_below(netlist: &[u32], m: usize, v: u32) -> bool
-    requires { ⌜ m ≤ cellCount (now netlist) ⌝ }
-    ensures { λ r. ⌜ r ≡ and (ltb v m) (leb 8 (kindAt (now (netlist .entry)) v)) ⌝ }
+// Cell n has no use for y and z.
+fn lone(netlist: &[u32], n: usize) -> bool
+    requires { ⌜ n < cellCount (now netlist) ⌝ }
+    ensures { λ r. ⌜ r ≡ asked.lone (now (netlist .entry)) n ⌝ }
 {
-    (v as usize) < m && 8 <= cells::kind(netlist, v as usize)
+    cells::number(netlist, n, 2) == 0 && cells::number(netlist, n, 3) == 0
 }
 
-// A row holds, its wire shows at most `top`, and its numbers without use are 0.
-fn only(holds: bool, shown: u32, top: u32, y: u32, z: u32) -> bool
-    ensures { λ r. ⌜ r ≡ and holds (and (leb shown top) (and (eqb y 0) (eqb z 0))) ⌝ }
+// Its x is a number, of which `holds` is asked.
+fn no_wire(netlist: &[u32], n: usize, holds: bool, shown: u32, top: u32) -> bool
+    requires { ⌜ n < cellCount (now netlist) ⌝ }
+    ensures { λ r. ⌜ r ≡ and (leb shown top) (and holds (asked.lone (now (netlist .entry)) n)) ⌝ }
 {
-    holds && (shown <= top && (y == 0 && z == 0))
+    shown <= top && (holds && lone(netlist, n))
 }
 
-// Kinds 13 to 22: an operation on lower words.
-fn operation(width: u32, netlist: &[u32], n: usize, shown: u32) -> bool
-    requires { ⌜ (width ≤ 32) × (n < cellCount (now netlist)) ⌝ }
-    ensures { λ r. ⌜ (r ≡ true → Sound width (now (netlist .entry)) n 0 shown) ⌝ }
+// It reads one wire, one of the first m.
+fn one_wire(netlist: &[u32], n: usize, m: usize, word: bool, shown: u32, top: u32) -> bool
+    requires { ⌜ (n < cellCount (now netlist)) × (m ≤ cellCount (now netlist)) ⌝ }
+    ensures { λ r. ⌜ r ≡ and (leb shown top) (asked.oneWire (now (netlist .entry)) n m word) ⌝ }
 {
-    let kind = cells::kind(netlist, n);
-    let x = cells::number(netlist, n, 1);
-    let y = cells::number(netlist, n, 2);
-    let z = cells::number(netlist, n, 3);
-    let most = words::ones(width);
-    13 <= kind
-        && if kind < 20 {
-            word_below(netlist, n, x) && only(word_below(netlist, n, y), shown, most, 0, z)
-        } else {
-            kind <= 22 && only(word_below(netlist, n, x), shown, most, y, z)
-        }
+    shown <= top && (below(netlist, m, word, cells::number(netlist, n, 1)) && lone(netlist, n))
+}
+
+// It reads two lower wires.
+fn two_wires(netlist: &[u32], n: usize, word: bool, shown: u32, top: u32) -> bool
+    requires { ⌜ n < cellCount (now netlist) ⌝ }
+    ensures { λ r. ⌜ r ≡ and (leb shown top) (asked.twoWires (now (netlist .entry)) n word) ⌝ }
+{
+    shown <= top
+        && (below(netlist, n, word, cells::number(netlist, n, 1))
+            && (below(netlist, n, word, cells::number(netlist, n, 2))
+                && cells::number(netlist, n, 3) == 0))
+}
+
+// It reads a lower bit and two lower words.
+fn choice(netlist: &[u32], n: usize, shown: u32, top: u32) -> bool
+    requires { ⌜ n < cellCount (now netlist) ⌝ }
+    ensures { λ r. ⌜ r ≡ and (leb shown top) (asked.choice (now (netlist .entry)) n) ⌝ }
+{
+    shown <= top
+        && (below(netlist, n, false, cells::number(netlist, n, 1))
+            && (below(netlist, n, true, cells::number(netlist, n, 2))
+                && below(netlist, n, true, cells::number(netlist, n, 3))))
 }
 
 // Whether cell n passes, where `given` words may be named and its wire shows `shown`.
@@ -55,24 +74,26 @@ pub fn sound(width: u32, netlist: &[u32], n: usize, given: usize, shown: u32) ->
 {
     let kind = cells::kind(netlist, n);
     let x = cells::number(netlist, n, 1);
-    let y = cells::number(netlist, n, 2);
-    let z = cells::number(netlist, n, 3);
     let count = cells::count(netlist);
     let most = words::ones(width);
     match kind {
-        0 => only(x == 0, shown, 1, y, z),
-        1 => only(bit_below(netlist, n, x), shown, 1, y, z),
-        2 => bit_below(netlist, n, x) && only(bit_below(netlist, n, y), shown, 1, 0, z),
-        3 => bit_below(netlist, n, x) && only(bit_below(netlist, n, y), shown, 1, 0, z),
-        4 => only(bit_below(netlist, count, x), shown, 1, y, z),
-        5 => only(bit_below(netlist, count, x), shown, 1, y, z),
-        6 => only(word_below(netlist, n, x), shown, 1, y, z),
-        8 => only((x as usize) < given, shown, most, y, z),
-        9 => only(x <= most, shown, most, y, z),
-        10 => only(word_below(netlist, count, x), shown, most, y, z),
-        11 => bit_below(netlist, n, x)
-            && (word_below(netlist, n, y) && only(word_below(netlist, n, z), shown, most, 0, 0)),
-        12 => only(word_below(netlist, n, x), shown, most, y, z),
-        _ => operation(width, netlist, n, shown),
+        0 => no_wire(netlist, n, x == 0, shown, 1),
+        1 => one_wire(netlist, n, n, false, shown, 1),
+        2 => two_wires(netlist, n, false, shown, 1),
+        3 => two_wires(netlist, n, false, shown, 1),
+        4 => one_wire(netlist, n, count, false, shown, 1),
+        5 => one_wire(netlist, n, count, false, shown, 1),
+        6 => one_wire(netlist, n, n, true, shown, 1),
+        8 => no_wire(netlist, n, (x as usize) < given, shown, most),
+        9 => no_wire(netlist, n, x <= most, shown, most),
+        10 => one_wire(netlist, n, count, true, shown, most),
+        11 => choice(netlist, n, shown, most),
+        12 => one_wire(netlist, n, n, true, shown, most),
+        _ => 13 <= kind
+            && if kind < 20 {
+                two_wires(netlist, n, true, shown, most)
+            } else {
+                kind <= 22 && one_wire(netlist, n, n, true, shown, most)
+            },
     }
 }
