@@ -17,7 +17,7 @@ use Rattle.meaning.specs.Checks.{widthFits, firstRefusal}
 use Rattle.circuit.specs.Cells.{cellNumber, kindAt, cellCount}
 use Rattle.circuit.specs.Netlists.{netlistFits, cellRefusal, netlistVerdict}
 use Rattle.circuit.specs.Simulated.{inputsGiven, inputsVerdict, wireRefusal, stepVerdict}
-use Rattle.circuit.proofs.Verdicts.{scan-passes}
+use Rattle.meaning.proofs.Verdicts.{scan-passes}
 use Rattle.glance.specs.Sound.{Sound, AllSound}
 
 module _ (w : ℕ) (net : List ℕ) (given : ℕ) (wires : List ℕ) where
