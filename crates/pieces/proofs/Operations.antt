@@ -10,8 +10,6 @@ use lib.Seq.{getD-take}
 use borrow.Author.Tests.{lt-ltb, le-ltb, eq-eqb, ne-eqb}
 use Rattle.meaning.specs.Choices.{at}
 use Rattle.meaning.specs.Words.{arity}
-use Rattle.meaning.specs.Terms.{leaf}
-use Rattle.meaning.specs.Counts.{ins}
 use Rattle.meaning.proofs.Tests.{split}
 use Rattle.meaning.proofs.Typed.{LeafFits, const-leaf, field-leaf, op-leaf}
 use Rattle.circuit.specs.Cells.{Cell, cell, notCell, wordRegister, choiceCell}
