@@ -26,7 +26,9 @@ fn lone(netlist: &[u32], n: usize) -> bool
     requires { ⌜ n < cellCount (now netlist) ⌝ }
     ensures { λ r. ⌜ r ≡ asked.lone (now (netlist .entry)) n ⌝ }
 {
-    cells::number(netlist, n, 2) == 0 && cells::number(netlist, n, 3) == 0
+    let y = cells::number(netlist, n, 2);
+    let z = cells::number(netlist, n, 3);
+    y == 0 && z == 0
 }
 
 // Its x is a number, of which `holds` is asked.

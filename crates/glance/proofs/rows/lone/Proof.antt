@@ -15,12 +15,14 @@ number-requires-2 : tie.Need-number-requires-2
 number-requires-2 c κs = search needs
 
 returns : tie.Need-returns
-returns c = goes-on (ap (λ (v : ℕ). eqb v 0) (sym (c .before .before .number .ensures)) ∙ eq-eqb _ _ (c .before .if1 .taken))
-    (ap (λ (v : ℕ). eqb v 0) (c .number2 .ensures))
+returns c =
+    let r = c .before in
+    goes-on (ap (λ (v : ℕ). eqb v 0) (sym (r .before .number .ensures)) ∙ eq-eqb _ _ (c .if1 .taken))
+    (ap (λ (v : ℕ). eqb v 0) (r .number2 .ensures))
 
 returns-2 : tie.Need-returns-2
 returns-2 c =
-    let e = ap (λ (v : ℕ). eqb v 0) (c .before .number .ensures) in
+    let e = ap (λ (v : ℕ). eqb v 0) (c .before .before .number .ensures) in
     rw (sym e ∙ ne-eqb _ _ (c .if1 .left)) (ne-eqb _ _ (c .if1 .left))
 
 pub lone-spec : {M : Type 1} → statement M
