@@ -1,4 +1,5 @@
--- Laws of the simulator: how a pass fills a buffer, and what its checks find.
+-- Laws of the simulator: numbers as bits, how a pass fills a buffer, and what its checks find.
+pub mod Bits
 pub mod Passing
 pub mod Inputs
 pub mod Judging

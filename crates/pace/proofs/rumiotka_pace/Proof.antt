@@ -1,24 +1,17 @@
 -- Proof: `rumiotka_pace` meets its contract: a refusal leaves both buffers, an accepted call has all that a pair of steps needs.
 -- Assumes nothing.
-use Prim.Native.Nat.{ℕ, zero, suc}
-use mathlib.Core.Path.{_≡_, refl, sym, ap, _∙_}
-use mathlib.Core.Bool.{not}
-use lib.Dec.{eqb, eqb·suc-zero}
+use mathlib.Core.Path.{_≡_, sym, ap, _∙_}
 use lib.ListN.{length}
 use Rattle.meaning.specs.declared.Verdict.the-variants as verdict
 use Rattle.meaning.specs.Choices.{bit}
 use Rattle.meaning.specs.Answers.{judged}
 use Rattle.circuit.specs.Simulated.{stepVerdict}
+use Rattle.simulator.proofs.Bits.{nonzero}
 use Rattle.simulator.proofs.Accepting.{step-ready}
 use Rattle.pace.proofs.Taking.{accepted-after, refused-after}
 use borrow.Author.Needs.{needs}
 use Rattle.pace.proofs.rumiotka_pace.Statement.{statement}
 use Rattle.pace.proofs.rumiotka_pace.Tie as tie
-
--- A number that is not zero is a bit that is high.
-nonzero : (x : ℕ) → not (eqb x 0) ≡ bit x
-nonzero zero = refl
-nonzero (suc x) = rw (eqb·suc-zero x)
 
 -- The verdict accepts.
 accepts : (c : tie.After-enum-told) → (let a = c .before .before .before .before .before .before .before .before .args in
