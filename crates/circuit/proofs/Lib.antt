@@ -1,4 +1,4 @@
--- What is shown of the definitions, in order. The promise is `promise-holds` in `Holds`.
+-- What is shown of the definitions, in order. The crate `promise` joins it to the theorems.
 -- How many cells and wires there are, and where the parts of a block stand.
 pub mod Lengths
 pub mod Places
@@ -31,9 +31,3 @@ pub mod PassBlocks
 pub mod PassBranches
 pub mod InRange
 pub mod Simulates
--- The theorems, what follows from them, circuits that break the promise, and small runs.
-pub mod Holds
-pub mod Unique
-pub mod Corollaries
-pub mod Traps
-pub mod Cases

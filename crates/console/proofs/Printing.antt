@@ -21,7 +21,7 @@ use Rattle.circuit.specs.declared.Emission.the-variants as emission
 use Rattle.circuit.specs.Cells.{stride}
 use Rattle.circuit.specs.Netlists.{netlistVerdict}
 use Rattle.circuit.specs.Compiling.{mainBlock, netlistOf, compileVerdict, compiledOf, netlistAfter}
-use Rattle.circuit.proofs.Holds.{netlist-size}
+use Rattle.promise.proofs.Holds.{netlist-size}
 use Rattle.verilog.specs.declared.Written.{Written}
 use Rattle.verilog.specs.declared.Written.the-variants as written
 use Rattle.spelling.specs.Pieces.{placed, Wrote}

@@ -17,10 +17,10 @@ use Rattle.meaning.specs.Answers.{wordsFit}
 use Rattle.meaning.proofs.Tests.{clash, split, both}
 use Rattle.meaning.proofs.Runs.{positive}
 use Rattle.meaning.proofs.Exact.{ended-runs}
 use Rattle.circuit.specs.Promise.{Low, begins, Promise, doneOf, outputsOf}
 use Rattle.circuit.proofs.Streams.{Bits, Wires, and-false, low-part}
-use Rattle.circuit.proofs.Holds.{promise-holds}
-use Rattle.circuit.proofs.Unique.{done-unique, shown-unique}
+use Rattle.promise.proofs.Holds.{promise-holds}
+use Rattle.promise.proofs.Unique.{done-unique, shown-unique}
 
 -- Load that is held high begins nothing more, whatever done does.
 pub held-load : (load done : Bits) (t u : ℕ) → ((k : ℕ) → t ≤ k → k ≤ u → load k ≡ true) → Low (begins load done) (suc t) (suc u)
