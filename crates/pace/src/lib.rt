@@ -7,7 +7,7 @@ ghost use Rattle.meaning.specs.Choices.{bit};
 ghost use Rattle.meaning.specs.Answers.{judged};
 ghost use Rattle.circuit.specs.Cells.{cellCount};
 ghost use Rattle.circuit.specs.Simulated.{stepVerdict};
-ghost use Rattle.simulator.specs.Ready.{Ready};
+ghost use Rattle.cycles.specs.Ready.{Ready};
 ghost use Rattle.pace.specs.Pairs.{evens, odds, evenAfter, oddAfter};
 
 // A step from `even` into `odd` and one back, `pairs` times.
@@ -29,8 +29,8 @@ fn alternate(
 {
     let mut taken: u32 = 0;
     while taken < pairs {
-        simulator::cycles::next(width, netlist, even, load, words, odd);
-        simulator::cycles::next(width, netlist, odd, load, words, even);
+        cycles::next(width, netlist, even, load, words, odd);
+        cycles::next(width, netlist, odd, load, words, even);
         taken = taken + 1;
     }
 }

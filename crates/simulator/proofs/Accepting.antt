@@ -20,7 +20,7 @@ use Rattle.circuit.specs.Clock.{powerUp, step}
 use Rattle.circuit.specs.Simulated.{inputsGiven, inputsVerdict, wireRefusal, powerUpVerdict, stepVerdict, wiresAtStart, wiresAfter}
 use Rattle.meaning.proofs.Verdicts.{went-on}
 use Rattle.cells.proofs.Scan.{scan-then}
-use Rattle.simulator.specs.Ready.{Ready}
+use Rattle.cycles.specs.Ready.{Ready}
 
 -- Where the last of two judgements accepts, both do.
 two-accept : (v u : Verdict) → onVerdict v u verdict.Refused ≡ verdict.Accepted → (v ≡ verdict.Accepted) × (u ≡ verdict.Accepted)

@@ -1,7 +1,4 @@
--- Laws of the simulator: numbers as bits, how a pass fills a buffer, and what its checks find.
-pub mod Bits
-pub mod Passing
-pub mod Inputs
+-- Laws of the simulator: what its checks find, what is ready where they pass, and that its answers are unique.
 pub mod Judging
 pub mod Accepting
 pub mod Unique

@@ -4,8 +4,8 @@
 //     power_up   the wires of cycle 0
 //     step       the wires of a cycle from those of the cycle before
 //     verdicts   the refusals of both: the netlist's, then 17, 18 and 11
-//     cycles     the wires of a cycle, for a caller that has checked once and steps many times
-pub mod cycles;
+//
+// The crate `cycles` computes the wires; a caller that has checked once may step by it many times.
 pub mod verdicts;
 
 use meaning::Verdict;

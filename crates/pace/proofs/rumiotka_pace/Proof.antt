@@ -6,7 +6,7 @@ use Rattle.meaning.specs.declared.Verdict.the-variants as verdict
 use Rattle.meaning.specs.Choices.{bit}
 use Rattle.meaning.specs.Answers.{judged}
 use Rattle.circuit.specs.Simulated.{stepVerdict}
-use Rattle.simulator.proofs.Bits.{nonzero}
+use Rattle.cycles.proofs.Bits.{nonzero}
 use Rattle.simulator.proofs.Accepting.{step-ready}
 use Rattle.pace.proofs.Taking.{accepted-after, refused-after}
 use borrow.Author.Needs.{needs}

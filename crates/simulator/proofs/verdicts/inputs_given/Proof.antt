@@ -7,7 +7,7 @@ use native.Mathlib.Omega.{arith}
 use borrow.Author.Needs.{needs}
 use borrow.Author.Tests.{not-true, not-false}
 use Rattle.circuit.specs.Simulated.{inputsGiven}
-use Rattle.simulator.proofs.Inputs.{given-start, given-on, given-not}
+use Rattle.cycles.proofs.Inputs.{given-start, given-on, given-not}
 use Rattle.simulator.proofs.verdicts.inputs_given.Statement.{statement}
 use Rattle.simulator.proofs.verdicts.inputs_given.Tie as tie
 

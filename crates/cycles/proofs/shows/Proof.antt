@@ -8,14 +8,14 @@ use native.Mathlib.Omega.{arith}
 use lib.ListN.{length}
 use borrow.Author.Tests.{lt-ltb}
 use Rattle.circuit.specs.Cells.{stride, cellNumber, kindAt, cellCount, portsOf}
-use Rattle.simulator.specs.Ready.{Lower}
+use Rattle.cycles.specs.Ready.{Lower}
 use Rattle.circuit.proofs.Checked.{checked}
 use Rattle.cells.proofs.Passed.{Passed, passed}
 use Rattle.cells.proofs.Wires.{isLower, isLater, x-lower, y-lower, z-lower, x-there, operation-x, operation-y, is-operation}
-use Rattle.simulator.proofs.Inputs.{given-at}
+use Rattle.cycles.proofs.Inputs.{given-at}
 use borrow.Author.Needs.{needs}
-use Rattle.simulator.proofs.cycles.shows.Statement.{statement}
-use Rattle.simulator.proofs.cycles.shows.Tie as tie
+use Rattle.cycles.proofs.shows.Statement.{statement}
+use Rattle.cycles.proofs.shows.Tie as tie
 
 -- Where the kind is read: the call's arguments, what the checks have shown, and what each reader asks for.
 abbrev start : tie.After-kind → tie.Start

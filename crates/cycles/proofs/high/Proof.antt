@@ -1,10 +1,10 @@
 -- Proof: `simulator::cycles::high` meets its contract. Assumes nothing.
 use mathlib.Core.Path.{ap, _∙_}
 use Rattle.meaning.specs.Choices.{bit}
-use Rattle.simulator.proofs.Bits.{nonzero}
+use Rattle.cycles.proofs.Bits.{nonzero}
 use borrow.Author.Needs.{needs}
-use Rattle.simulator.proofs.cycles.high.Statement.{statement}
-use Rattle.simulator.proofs.cycles.high.Tie as tie
+use Rattle.cycles.proofs.high.Statement.{statement}
+use Rattle.cycles.proofs.high.Tie as tie
 
 lower-requires : tie.Need-lower-requires
 lower-requires c κs = search needs

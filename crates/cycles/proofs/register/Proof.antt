@@ -1,8 +1,8 @@
 -- Proof: `simulator::cycles::register` meets its contract. Assumes nothing.
 use native.Mathlib.Omega.{arith}
 use borrow.Author.Needs.{needs}
-use Rattle.simulator.proofs.cycles.register.Statement.{statement}
-use Rattle.simulator.proofs.cycles.register.Tie as tie
+use Rattle.cycles.proofs.register.Statement.{statement}
+use Rattle.cycles.proofs.register.Tie as tie
 
 returns : tie.Need-returns
 returns c = search needs

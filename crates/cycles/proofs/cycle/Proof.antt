@@ -5,10 +5,10 @@ use mathlib.Core.Path.{sym, _∙_}
 use borrow.Author.Needs.{needs}
 use native.Mathlib.Omega.{arith}
 use Rattle.circuit.specs.Cells.{cellCount}
-use Rattle.simulator.specs.Ready.{heldBy}
-use Rattle.simulator.proofs.Passing.{Passing, passing-start, passing-on, passing-end}
-use Rattle.simulator.proofs.cycles.cycle.Statement.{statement}
-use Rattle.simulator.proofs.cycles.cycle.Tie as tie
+use Rattle.cycles.specs.Ready.{heldBy}
+use Rattle.cycles.proofs.Passing.{Passing, passing-start, passing-on, passing-end}
+use Rattle.cycles.proofs.cycle.Statement.{statement}
+use Rattle.cycles.proofs.cycle.Tie as tie
 
 abbrev Inv-loop : tie.InvT-loop
 Inv-loop width netlist fresh start before load words after₀ count n₀ after n =

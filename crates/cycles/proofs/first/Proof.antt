@@ -3,8 +3,8 @@ use mathlib.Core.Path.{refl}
 use mathlib.Core.Bool.{true}
 use Rattle.meaning.proofs.Tests.{clash}
 use borrow.Author.Needs.{needs}
-use Rattle.simulator.proofs.cycles.first.Statement.{statement}
-use Rattle.simulator.proofs.cycles.first.Tie as tie
+use Rattle.cycles.proofs.first.Statement.{statement}
+use Rattle.cycles.proofs.first.Tie as tie
 
 cycle-requires : tie.Need-cycle-requires
 cycle-requires c κs = (c .before .before .before .before .pre, λ f. clash true refl f)

@@ -10,7 +10,7 @@ ghost use lib.ListN.{length, take};
 ghost use Rattle.meaning.specs.Choices.{and, or, not, num, «bit», at, pick};
 ghost use Rattle.circuit.specs.Cells.{cellNumber, cellCount, cellAt, cellsOf, value};
 ghost use Rattle.circuit.specs.Clock.{pass, powerUp, step};
-ghost use Rattle.simulator.specs.Ready.{Ready, Past, Lower, lowerWire, heldBy};
+ghost use Rattle.cycles.specs.Ready.{Ready, Past, Lower, lowerWire, heldBy};
 
 // A yes or no as a bit.
 fn bit(holds: bool) -> u32

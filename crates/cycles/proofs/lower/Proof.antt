@@ -2,8 +2,8 @@
 use lib.Seq.{getD-take}
 use mathlib.Core.Path.{sym}
 use borrow.Author.Needs.{needs}
-use Rattle.simulator.proofs.cycles.lower.Statement.{statement}
-use Rattle.simulator.proofs.cycles.lower.Tie as tie
+use Rattle.cycles.proofs.lower.Statement.{statement}
+use Rattle.cycles.proofs.lower.Tie as tie
 
 number-requires : tie.Need-number-requires
 number-requires c κs = search needs

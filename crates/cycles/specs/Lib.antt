@@ -1,0 +1,2 @@
+-- What the calls of a cycle need. Definitions only.
+pub mod Ready

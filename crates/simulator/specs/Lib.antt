@@ -1,2 +1,0 @@
--- What the simulator's inner calls need. Definitions only.
-pub mod Ready
