@@ -1,6 +1,6 @@
-// One look at each cell of a step: whether all that the call is lent passes every check, yes or no.
-// A step that passes needs no other judgement; of one that does not, `simulator::verdicts` says
-// which refusal is its. Document 01: "The simulator", "Refusal numbers".
+// One look at each cell of a step: yes only where all that the call is lent passes every check. A
+// step that gets a yes needs no other judgement; of any other, `simulator::verdicts` says whether
+// it is refused, and how. Document 01: "The simulator", "Refusal numbers".
 mod rows;
 
 use meaning::Verdict;
@@ -30,7 +30,7 @@ fn all_sound(width: u32, netlist: &[u32], given: usize, wires: &[u32]) -> bool
     true
 }
 
-// Whether a step is accepted: yes where it is, no where a refusal has to be named.
+// Yes only where a step is accepted; no says nothing, and the checks in order decide.
 pub fn step(width: u32, netlist: &[u32], before: &[u32], words: &[u32], room: usize) -> bool
     ensures { λ r. ⌜ (r ≡ true → stepVerdict width (now (netlist .entry)) (now (before .entry))
         (now (words .entry)) room ≡ Verdict.Accepted) ⌝ }
