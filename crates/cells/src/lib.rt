@@ -5,6 +5,8 @@
 //     check           the width and the length, then cell by cell, lowest first
 //     fits::refusal   13 to 16 of one cell: its kind, then its numbers by the ports of the kind
 //     kinds           which kinds drive bits and words, and the ports of each
+#![tactic(auto)]
+
 pub mod fits;
 pub mod kinds;
 

@@ -1,6 +1,7 @@
 // Netlists as values: what the compiler answers, and what a cell's numbers are.
 // How netlists are emitted, clocked and judged, and the promise about them is in `specs/`. What is
 // shown of blocks, checks and clock is in `proofs/`; the crate `promise` has the theorems.
+#![tactic(auto)]
 
 // What one of a cell's three numbers is.
 #[derive(Drop)]

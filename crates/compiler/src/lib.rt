@@ -5,6 +5,8 @@
 //     compile   judges the table, then the memory, then writes
 //     whole     load, the inputs, the main block, and in front of that what reads its done wire
 //     blocks    the block of a term: its operands' blocks, and the pieces that join them
+#![tactic(auto)]
+
 pub mod blocks;
 
 ghost use Rattle.std.specs.Prelude.{◌≡◌, length};

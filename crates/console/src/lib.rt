@@ -1,5 +1,7 @@
 // What the program prints: for a list of numbers, a width and a table, the Verilog text of the
 // table's circuit; for anything else, one line. Document 01: "The Verilog text".
+#![tactic(auto)]
+
 mod messages;
 
 ghost use Rattle.std.specs.Prelude.{◌≡◌, ◌≤◌, length};

@@ -2,6 +2,8 @@
 // cycle; a register shows its starting value in a fresh circuit, and afterwards its wire of the
 // cycle before. Nothing is judged here. One loop serves power-up and step, so that the compiler
 // folds all of it into one jump on the kind a cell. Document 01: "The simulator".
+#![tactic(auto)]
+
 ghost use Rattle.std.specs.Prelude.{◌≡◌, false, [], ◌<◌, length, take};
 ghost use Rattle.meaning.specs.Choices.{and, or, not, num, «bit», at, pick};
 ghost use Rattle.circuit.specs.Cells.{cell_number, cell_count, cell_at, cells_of, value};

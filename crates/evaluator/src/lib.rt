@@ -5,6 +5,8 @@
 //     evaluate  the checks, the words, then the run of the main term
 //     inputs    check 11, and the words in an array of 16
 //     ran       the run of the main term, by the term evaluator of `runs`
+#![tactic(auto)]
+
 mod inputs;
 
 ghost use Rattle.std.specs.Prelude.{◌≡◌, ◌≤◌, length};

@@ -1,5 +1,7 @@
 // What a kind uses, and the refusals 3 to 5, which a term's own numbers decide.
 // Document 01: "Term tables", "Refusal numbers".
+#![tactic(auto)]
+
 ghost use Rattle.std.specs.Prelude.{◌≡◌, ◌≤◌, eqb, leb};
 ghost use Rattle.meaning.specs.Choices.{and, or};
 ghost use Rattle.meaning.specs.Checks.{

@@ -1,5 +1,7 @@
 // What a term without operands does to the words, and what Par makes of its two sides.
 // Document 01: "Term tables", "Cycles".
+#![tactic(auto)]
+
 ghost use Rattle.std.specs.Prelude.{◌≡◌, ◌<◌, ◌≤◌, max, length};
 ghost use Rattle.meaning.specs.Cycles.{leaf_word, leaf_run};
 ghost use Rattle.leaves.specs.Results.{run_from, Leaves, side_by_side};

@@ -1,5 +1,6 @@
 // The answers that the parts share, as values; `specs/Answers.antt` gives each case's numbers.
 // Nothing is computed here: the definitions are in `specs/`, the laws about them in `proofs/`.
+#![tactic(auto)]
 
 // A judgement: accepted, or refused with document 01's number and the place that it names.
 #[derive(Drop)]

@@ -1,5 +1,7 @@
 // Lists of decimal numbers read from text. What is no such list is refused, and then there are no
 // numbers. Document 01: "The Verilog text", first paragraph.
+#![tactic(auto)]
+
 ghost use Rattle.std.specs.Prelude.{◌≡◌, List, ℕ, ◌+◌, ◌≤◌, ◌<◌};
 ghost use Rattle.numbers.specs.Lists.{
   is_digit,

@@ -1,5 +1,7 @@
 // For the benchmark alone: a netlist that is judged once and stepped many times, as a C function
 // in the manner of the plugin's. Document 01: "The simulator".
+#![tactic(auto)]
+
 ghost use Rattle.std.specs.Prelude.{◌≡◌, length};
 ghost use Rattle.meaning.specs.Choices.{bit};
 ghost use Rattle.meaning.specs.Answers.{judged};

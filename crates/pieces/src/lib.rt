@@ -5,6 +5,8 @@
 //     rows     a wire or a cell for each of a block's words
 //     leaves   the block of a term without operands
 //     seams    what stands in front of and behind a test with its branches
+#![tactic(auto)]
+
 pub mod cells;
 pub mod leaves;
 pub mod rows;

@@ -1,6 +1,8 @@
 // The plugin's C interface: each part as a function on numbers, which `include/rumiotka.h` declares
 // for a host. Every call is taken as it comes: a function writes its answer, refusals included,
 // and what its part writes. Document 01: "Refusal numbers" and the sections of the parts.
+#![tactic(auto)]
+
 mod numbers;
 
 ghost use Rattle.std.specs.Prelude.{◌≡◌, length};

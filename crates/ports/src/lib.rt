@@ -1,4 +1,6 @@
 // Refusal 19: whether the ports that a caller names fit a netlist that passes its checks.
+#![tactic(auto)]
+
 ghost use Rattle.std.specs.Prelude.{◌≡◌, true, ◌<◌, ◌≤◌, eqb, ltb};
 ghost use Rattle.meaning.specs.Choices.{pick, at};
 ghost use Rattle.meaning.specs.Checks.{few_words};

@@ -5,6 +5,8 @@
 //
 //     term     by the kind: the four below, or `leaves::leaf`
 //     seq, par, ite, rounds   the combinators; `rounds` is the round evaluator of Rec
+#![tactic(auto)]
+
 ghost use Rattle.std.specs.Prelude.{◌≡◌};
 ghost use Rattle.meaning.specs.Terms.{kind_of};
 ghost use Rattle.leaves.specs.Results.{Leaves};

@@ -1,6 +1,8 @@
 // The refusals 7 and 8 of a term, and what it gives, from what is known of its operands.
 // Document 01: "Term tables", "Cells".
 // Sizes are kept up to 4,097, so that a sum of three of them is small whatever the table.
+#![tactic(auto)]
+
 ghost use Rattle.std.specs.Prelude.{◌≡◌};
 ghost use Rattle.meaning.specs.Counts.{«capped»};
 ghost use Rattle.shapes.specs.Shapes.{

@@ -6,6 +6,8 @@
 //     verdicts   the refusals of both: the netlist's, then 17, 18 and 11
 //
 // The crate `cycles` computes the wires; a caller that has checked once may step by it many times.
+#![tactic(auto)]
+
 pub mod verdicts;
 
 ghost use Rattle.std.specs.Prelude.{◌≡◌, length};

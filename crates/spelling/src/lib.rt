@@ -2,6 +2,8 @@
 // index on as far as the buffer goes, and answers the index after it. So the same code counts a
 // text where the buffer is short, and writes it where the buffer holds it. A writer of any format
 // stands on these; none of them knows what a line means.
+#![tactic(auto)]
+
 ghost use Rattle.std.specs.Prelude.{◌≡◌, [], ◌∷◌, ◌+◌, ◌*◌, ◌^◌, ◌≤◌, ◌<◌, length};
 ghost use Rattle.spelling.specs.Pieces.{
   digits,

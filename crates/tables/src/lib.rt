@@ -4,6 +4,8 @@
 //     scanned   lowest term first: `early`, the operands, `readings::shape_of`
 //     early     3 to 5, by the term's own numbers (`kinds`)
 //     readings  7 and 8, by what the arrays know of the operands (`shapes`)
+#![tactic(auto)]
+
 mod readings;
 
 ghost use Rattle.std.specs.Prelude.{◌≡◌, ◌*◌, ◌+◌, ◌<◌, ◌≤◌, length};

@@ -1,6 +1,8 @@
 // Reads a width and a table from standard input and writes the Verilog text of the table's circuit,
 // or one line that says why not. One byte more than a list may have is read, so that a longer one
 // is seen. What is printed is `console::respond`'s, proved.
+#![tactic(auto)]
+
 use libc::{STDIN_FILENO, STDOUT_FILENO};
 
 fn main() {

@@ -5,6 +5,8 @@
 //     check    `framed`, then `tables::scanned`, then the size of the whole circuit
 //     framed   1 and 2: the width and the length
 //     size     the cells of one term of an accepted table
+#![tactic(auto)]
+
 ghost use Rattle.std.specs.Prelude.{◌≡◌, ◌≤◌, ◌%◌, eqb, leb};
 ghost use Rattle.meaning.specs.Choices.{and};
 ghost use Rattle.meaning.specs.Terms.{tree};

@@ -1,5 +1,7 @@
 // A netlist as Verilog text in lent memory.
 // Document 01: "The Verilog text".
+#![tactic(auto)]
+
 mod lines;
 mod templates;
 

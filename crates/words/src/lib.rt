@@ -2,6 +2,8 @@
 // Every function takes every number: with an operand past the width it computes as defined.
 // Sums and differences wrap at 32 bits and are then reduced to the width.
 // Document 01: "Term tables".
+#![tactic(auto)]
+
 ghost use Rattle.std.specs.Prelude.{◌≡◌, ◌-◌, ◌%◌, ◌^◌, ◌≤◌, nat_lt};
 ghost use Rattle.meaning.specs.Choices.{num, all_below};
 ghost use Rattle.meaning.specs.Words.{
