@@ -16,7 +16,7 @@ ghost use Rattle.shapes.specs.Shapes.{
 };
 
 // What is known of a term: its words in and out, and its cells up to the cap.
-#[derive(Drop)]
+#[derive(Clone, Copy)]
 pub struct Known {
     pub ins: u32,
     pub outs: u32,
@@ -38,6 +38,7 @@ fn capped(cells: u32) -> u32
 }
 
 // Seq: g takes what f gives.
+#[tactic(auto, unfolding(crate::specs::Shapes::seq_shape))]
 pub fn seq(f: Known, g: Known) -> Shape
     requires { (Small f) × (Small g) }
     ensures { result ≡ seq_shape f g }
@@ -53,6 +54,7 @@ pub fn seq(f: Known, g: Known) -> Shape
 }
 
 // Par: both take the same and give at most 16 words.
+#[tactic(auto, unfolding(crate::specs::Shapes::par_shape))]
 pub fn par(f: Known, g: Known) -> Shape
     requires { (Small f) × (Small g) }
     ensures { result ≡ par_shape f g }
@@ -78,6 +80,7 @@ fn test_passes(e: Known, f: Known, g: Known) -> bool
 }
 
 // Ite: both branches give the same.
+#[tactic(auto, unfolding(crate::specs::Shapes::ite_shape))]
 pub fn ite(e: Known, f: Known, g: Known) -> Shape
     requires { (Small e) × (Small f) × (Small g) }
     ensures { result ≡ ite_shape e f g }
@@ -96,6 +99,7 @@ pub fn ite(e: Known, f: Known, g: Known) -> Shape
 }
 
 // Rec: g gives what the next round takes.
+#[tactic(auto, unfolding(crate::specs::Shapes::rec_shape))]
 pub fn rec(e: Known, f: Known, g: Known) -> Shape
     requires { (Small e) × (Small f) × (Small g) }
     ensures { result ≡ rec_shape e f g }
