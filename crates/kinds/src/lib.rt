@@ -28,6 +28,7 @@ fn known(kind: u32) -> bool
 }
 
 // How many of a, b, c name terms.
+#[tactic(auto, unfolding(meaning::specs::Checks::operands_of))]
 pub fn operands(kind: u32) -> usize
     ensures { result ≡ operands_of kind }
 {
@@ -41,6 +42,7 @@ pub fn operands(kind: u32) -> usize
 }
 
 // How many of a, b, c are used.
+#[tactic(auto, unfolding(meaning::specs::Checks::used_of))]
 fn used(kind: u32) -> usize
     ensures { result ≡ used_of kind }
 {
@@ -79,6 +81,7 @@ fn values_fit(width: u32, kind: u32, m: u32, v: u32) -> bool
 }
 
 // The first refusal of 3 to 5 that a term of these numbers gives, or 0.
+#[tactic(auto, unfolding(crate::specs::Early::early_of))]
 pub fn early(width: u32, kind: u32, a: u32, b: u32, c: u32) -> u32
     requires { width ≤ 32 }
     ensures { result ≡ early_of width kind a b c }
