@@ -1,7 +1,7 @@
 -- Law: a number's digits are one digit below 10, and otherwise the digits of its tenth and then its last; 32 bits have at most ten.
 -- `number` cites it. Assumes nothing.
 use Prim.Native.Nat.{ℕ, zero, suc, ◌+◌, ◌*◌, ◌/◌, ◌%◌, ◌^◌, ◌≤◌, ◌<◌}
-use mathlib.Core.Path.{◌≡◌, refl, sym, ap, ◌∙◌}
+use mathlib.Core.Path.{◌≡◌, refl, ap}
 use mathlib.Core.Logic.{⊎_elim}
 use mathlib.Core.List.{List, [], ◌∷◌, ◌++◌}
 use native.Mathlib.Nat.{pow-suc}
@@ -9,7 +9,7 @@ use native.Mathlib.Omega.{arith}
 use lib.ListN.{length, length-append}
 use borrow.Author.Tests.{lt-ltb, le-ltb}
 use Rattle.meaning.proofs.Tests.{split}
-use Rattle.spelling.specs.Pieces.{digit, last_after, digits_within, digits, Wrote}
+use Rattle.spelling.specs.Pieces.{digit, digits_within, digits, Wrote}
 use Rattle.spelling.proofs.Placing.{then}
 
 -- More room changes nothing.

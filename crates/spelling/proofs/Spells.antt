@@ -1,7 +1,7 @@
--- Law: a template's byte that is no blank stands for itself. `spell` cites it. Assumes nothing.
+-- Law: a template's byte that is no blank stands for itself. Assumes nothing.
 use Prim.Native.Nat.{ℕ}
 use mathlib.Core.Path.{◌≡◌, refl}
-use mathlib.Core.List.{List, [], ◌∷◌}
+use mathlib.Core.List.{[], ◌∷◌}
 use borrow.Author.Tests.{ne_eqb}
 use Rattle.spelling.specs.declared.Blanks.{Blanks}
 use Rattle.spelling.specs.Pieces.{spelled}

@@ -2,7 +2,7 @@
 -- Assumes nothing.
 use Prim.Native.Nat.{ℕ}
 use mathlib.Core.Path.{◌≡◌, sym, ◌∙◌}
-use mathlib.Core.List.{List, []}
+use mathlib.Core.List.{List}
 use Rattle.spelling.specs.Pieces.{Wrote}
 
 pub wrote-unique : {old piece new other : List ℕ} {i r q : ℕ} →

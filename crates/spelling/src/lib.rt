@@ -14,7 +14,7 @@ ghost use Rattle.spelling.specs.Pieces.{
 };
 
 // What the capitals N, X, Y, Z, W and T of a template stand for.
-#[derive(Drop)]
+#[derive(Clone, Copy, Drop)]
 pub struct Blanks {
     pub n: u32,
     pub x: u32,
@@ -72,6 +72,7 @@ fn digit(value: u32) -> u8
 }
 
 // Writes what a template's byte stands for.
+#[tactic(auto, unfolding(crate::specs::Pieces::spelled))]
 pub fn spell(text: &mut [u8], at: usize, byte: u8, blanks: Blanks) -> usize
     requires { at + 16 < 2 ^ 40 }
     ensures wrote { Wrote text.old at (spelled blanks byte) result text.new }
