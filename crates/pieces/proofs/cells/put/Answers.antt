@@ -1,5 +1,5 @@
 -- `cells::put` meets its contract: four stores in a row are one cell.
-use Rattle.std.proofs.Common.{◌≡◌, ◌+◌, ◌*◌, suc, refl}
+use Rattle.std.proofs.Common.{◌≡◌, ◌+◌, ◌*◌, suc, refl, arith}
 use Rattle.pieces.specs.Writing.{placed, written}
 use Rattle.pieces.proofs.cells.put.Goals as goal
 
