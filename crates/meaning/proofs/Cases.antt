@@ -10,7 +10,7 @@ use Rattle.meaning.specs.Terms.{node_of, below, main_of}
 use Rattle.meaning.specs.Counts.{whole_size}
 use Rattle.meaning.specs.Checks.{operands_of, used_of, operands_below, counts_fit, par_small, refusal_at, first_refusal, verdict_of}
 use Rattle.meaning.specs.Cycles.{evaluate}
-use Rattle.meaning.specs.Answers.{judged, outcome_numbers, evaluated_of, evaluated_numbers}
+use Rattle.meaning.specs.Answers.{judged, evaluated_of, evaluated_numbers}
 
 -- The same numbers, one by one.
 abbrev same : List ℕ → List ℕ → Bool

@@ -1,7 +1,6 @@
 -- Cases: document 01's small runs on cells, computed from the definitions. Assumes nothing.
 use Prim.Native.Nat.{ℕ, zero, suc}
 use mathlib.Core.Path.{◌≡◌, refl}
-use mathlib.Core.Bool.{Bool}
 use mathlib.Core.List.{List, [], ◌∷◌, ◌++◌, map}
 use lib.ListN.{length}
 use Rattle.meaning.specs.Choices.{num, bit, at}

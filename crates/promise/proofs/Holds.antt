@@ -9,7 +9,6 @@ use lib.Dec.{eqb}
 use lib.Pow.{pow_pos}
 use lib.ListN.{length}
 use borrow.Author.Tests.{eqb-true, le-leb, eq-eqb}
-use Rattle.meaning.specs.declared.Verdict.{Verdict}
 use Rattle.meaning.specs.declared.Verdict.TheVariants as verdict
 use Rattle.meaning.specs.Choices.{at, all_below}
 use Rattle.meaning.specs.Words.{Words}
