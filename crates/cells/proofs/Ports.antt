@@ -5,7 +5,6 @@ use mathlib.Core.Path.{◌≡◌, refl}
 use mathlib.Core.Bool.{Bool, true}
 use mathlib.Core.List.{List}
 use native.Mathlib.Omega.{arith}
-use lib.Dec.{ltb}
 use borrow.Author.Tests.{lt-ltb, ltb-true}
 use denote.Enum.Declared.{tag_of}
 use Rattle.circuit.specs.contracts.Port.{the_type}

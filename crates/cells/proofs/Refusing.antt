@@ -1,7 +1,7 @@
 -- Law: which answer `cell_refusal` and `netlist_verdict` give, by the first test that fails. Assumes nothing.
 use Prim.Native.Nat.{ℕ, ◌*◌, ◌%◌, ◌≤◌}
-use mathlib.Core.Path.{◌≡◌, refl, ◌∙◌}
-use mathlib.Core.Bool.{Bool, true, false}
+use mathlib.Core.Path.{◌≡◌}
+use mathlib.Core.Bool.{true, false}
 use mathlib.Core.List.{List}
 use native.Mathlib.Omega.{arith}
 use lib.Dec.{eqb, leb}

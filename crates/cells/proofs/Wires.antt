@@ -9,9 +9,8 @@ use native.Mathlib.Omega.{arith}
 use borrow.Author.Tests.{ltb-true, leb-true, eqb-true}
 use Rattle.circuit.specs.declared.Port.{Port}
 use Rattle.circuit.specs.declared.Port.TheVariants as port
-use Rattle.meaning.specs.Choices.{and}
 use Rattle.meaning.proofs.Tests.{clash, split, both, either}
-use Rattle.circuit.specs.Cells.{cell_number, kind_at, cell_count, Ports, ports, ports_of}
+use Rattle.circuit.specs.Cells.{cell_number, kind_at, cell_count, Ports, ports_of}
 use Rattle.circuit.specs.Netlists.{number_fits, wire_fits}
 use Rattle.circuit.proofs.Refusals.{two-ports, one-port}
 use Rattle.cells.proofs.Ports.{each}
