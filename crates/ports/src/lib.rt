@@ -100,6 +100,7 @@ fn few_words(n: u32) -> bool
 }
 
 // Whether all ports fit.
+#[tactic(auto, unfolding(crate::specs::Interface::ports_fit))]
 pub fn fit(netlist: &[u32], i: u32, o: u32, done: u32, outs: &[u32; 16]) -> bool
     ensures { result ≡ ports_fit netlist.now i o done outs.now }
 {
