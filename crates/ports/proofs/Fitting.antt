@@ -1,7 +1,7 @@
 -- Law: how the tests of refusal 19 go on by one cell or output, and of what kind a missing wire is. The proofs of the loops and of
 -- `is_bit` and `is_word` cite it. Assumes nothing.
-use Prim.Native.Nat.{ℕ, suc, ◌+◌}
-use mathlib.Core.Path.{◌≡◌, refl, sym, ap, ◌∙◌}
+use Prim.Native.Nat.{ℕ, ◌+◌}
+use mathlib.Core.Path.{◌≡◌, refl}
 use mathlib.Core.Bool.{Bool, true, false}
 use mathlib.Core.List.{List}
 use native.Mathlib.Numerals.{add-one}
