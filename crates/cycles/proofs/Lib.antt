@@ -1,4 +1,5 @@
--- Laws of a cycle's wires: numbers as bits, which words input cells name, and how a pass fills a buffer.
+-- Laws of a cycle's wires: numbers as bits, which words input cells name, what cells read, and how a pass fills a buffer.
 pub mod Bits
 pub mod Inputs
+pub mod Reading
 pub mod Passing
