@@ -1,7 +1,7 @@
 -- Law: a pass over the cells that writes each wire into a buffer: the wires so far, with the cells left, give what all cells give.
 -- The loops of `simulator::cycles` cite it, whatever registers hold. Assumes nothing.
-use Prim.Native.Nat.{ℕ, zero, suc, ◌+◌, ◌-◌, ◌≤◌, ◌<◌}
-use mathlib.Core.Path.{◌≡◌, refl, sym, ap, ◌∙◌}
+use Prim.Native.Nat.{ℕ, suc, ◌+◌, ◌-◌, ◌≤◌, ◌<◌}
+use mathlib.Core.Path.{◌≡◌, sym, ap, ◌∙◌}
 use mathlib.Core.Bool.{Bool}
 use mathlib.Core.List.{List, [], ◌∷◌, ◌++◌}
 use native.Mathlib.Numerals.{add-one}
@@ -10,7 +10,7 @@ use lib.ListN.{length, take, set, length-set}
 use lib.Seq.{take_all, take-suc-set, length-take-le}
 use Rattle.meaning.specs.Choices.{at}
 use Rattle.meaning.specs.Words.{Words}
-use Rattle.circuit.specs.Cells.{Cell, cell_count, cell_at, cells_from, cells_of, value}
+use Rattle.circuit.specs.Cells.{cell_count, cell_at, cells_from, cells_of, value}
 use Rattle.circuit.specs.Clock.{Held, pass}
 
 module _ (w : ℕ) (load : Bool) (words : Words) (held : Held) (net : List ℕ) where

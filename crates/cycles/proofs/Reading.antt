@@ -1,7 +1,7 @@
 -- Law: what each reader of a checked cell's numbers asks for, by the kind of the cell: lower wires, registers' wires.
 -- The proof of `cycles::shows` cites it. Assumes nothing.
 use Prim.Native.Nat.{ℕ, ◌≤◌, ◌<◌}
-use mathlib.Core.Path.{◌≡◌, refl, sym, ◌∙◌}
+use mathlib.Core.Path.{◌≡◌, refl}
 use mathlib.Core.Bool.{Bool, true, false}
 use mathlib.Core.List.{List}
 use mathlib.Core.Logic.{inl, inr}
