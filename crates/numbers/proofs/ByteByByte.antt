@@ -1,15 +1,15 @@
 -- Law: how a list of numbers is read byte by byte, what an array holds of it, and that too many numbers stay too many.
--- `read` and `store` cite it. Assumes nothing.
-use Prim.Native.Nat.{ℕ, zero, suc, ◌+◌, ◌-◌, ◌^◌, ◌≤◌, ◌<◌}
+-- `Underway` cites it. Assumes nothing.
+use Prim.Native.Nat.{ℕ, suc, ◌+◌, ◌-◌, ◌^◌, ◌≤◌, ◌<◌}
 use mathlib.Core.Path.{◌≡◌, refl, sym, ap, ◌∙◌}
-use mathlib.Core.Bool.{Bool, true, false}
+use mathlib.Core.Bool.{true, false}
 use mathlib.Core.List.{List, [], ◌∷◌, ◌++◌}
 use native.Mathlib.Omega.{arith}
-use lib.Dec.{eqb, ltb, leb}
+use lib.Dec.{ltb, leb}
 use lib.ListN.{length, set, take, replicate, length-append}
 use lib.Seq.{append_snoc, set-append_seam, take-append_seam}
 use borrow.Author.Tests.{leb-true, lt-ltb, le-ltb, le-leb, lt-leb}
-use Rattle.meaning.specs.Choices.{pick, and, padded}
+use Rattle.meaning.specs.Choices.{padded}
 use Rattle.meaning.proofs.Tests.{by-test, both}
 use Rattle.numbers.specs.Lists.{is_digit, is_gap, Progress, progress, closed, after_gap, grown, after_digit, Result, numbers, not_numbers, read_from, limited, Holds}
 

@@ -1,10 +1,9 @@
 -- Cases: lists of numbers and what is none, computed from the definitions. Assumes nothing.
-use Prim.Native.Nat.{ℕ}
 use Prim.Native.String.{String}
 use mathlib.Core.Path.{◌≡◌, refl}
 use mathlib.Core.List.{[], ◌∷◌, map}
 use Rattle.spelling.specs.Pieces.{bytes}
-use Rattle.numbers.specs.Lists.{Result, numbers, not_numbers, read_from, numbers_in}
+use Rattle.numbers.specs.Lists.{numbers, not_numbers, read_from, numbers_in}
 
 -- Gaps around numbers, zeros in front, a tab, a number too large, no number.
 lists-read : map (λ (s : String). numbers_in (bytes s))

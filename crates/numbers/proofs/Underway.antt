@@ -3,15 +3,14 @@
 use Prim.Native.Nat.{ℕ, ◌+◌, ◌^◌, ◌≤◌, ◌<◌}
 use mathlib.Core.Path.{◌≡◌, refl, sym, ap, ◌∙◌}
 use mathlib.Core.Bool.{Bool, true, false}
-use mathlib.Core.List.{List, [], ◌∷◌}
+use mathlib.Core.List.{List, ◌∷◌}
 use native.Mathlib.Numerals.{add-one}
 use native.Mathlib.Omega.{arith}
 use lib.ListN.{length, get_or, take, drop, replicate}
 use lib.Seq.{drop-cons, drop-length}
 use borrow.Author.Tests.{le-leb, lt-leb}
-use Rattle.numbers.specs.declared.Listed.{Listed}
 use Rattle.numbers.specs.declared.Reading.TheVariants as reading
-use Rattle.numbers.specs.Lists.{is_digit, is_gap, progress, begun, closed, grown, Result, numbers, not_numbers, read_from, limited, numbers_in, listed_as, listed_in, Holds}
+use Rattle.numbers.specs.Lists.{is_digit, is_gap, progress, begun, closed, grown, numbers, not_numbers, read_from, limited, numbers_in, listed_as, listed_in, Holds}
 use Rattle.numbers.proofs.ByteByByte.{read-digit, read-large, read-gap, read-other, read-end, over, too_many, taken, holds-none}
 
 -- The loop's invariant.

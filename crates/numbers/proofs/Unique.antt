@@ -1,7 +1,7 @@
 -- Law: the contract of `read` leaves no choice: two answers that meet it on the same bytes are the same. Assumes nothing.
 use Prim.Native.Nat.{ℕ}
 use mathlib.Core.Path.{◌≡◌, sym, ◌∙◌}
-use mathlib.Core.List.{List, []}
+use mathlib.Core.List.{List}
 use Rattle.numbers.specs.declared.Listed.{Listed}
 use Rattle.numbers.specs.Lists.{listed_in}
 
