@@ -1,5 +1,5 @@
 -- Law: how a list of numbers is read byte by byte, what an array holds of it, and that too many numbers stay too many.
--- `Underway` cites it. Assumes nothing.
+-- `store` and `Underway` cite it. Assumes nothing.
 use Prim.Native.Nat.{ℕ, suc, ◌+◌, ◌-◌, ◌^◌, ◌≤◌, ◌<◌}
 use mathlib.Core.Path.{◌≡◌, refl, sym, ap, ◌∙◌}
 use mathlib.Core.Bool.{true, false}
