@@ -24,6 +24,7 @@ fn length_fits(len: usize) -> bool
 }
 
 // 1 and 2: the width and the length are those of a table.
+#[tactic(auto, unfolding(crate::specs::Checked::framed_of))]
 fn framed(width: u32, table: &[u32]) -> Verdict
     ensures { result ≡ framed_of width table.now }
 {
@@ -69,6 +70,7 @@ pub fn check(width: u32, table: &[u32]) -> Facts
 
 // The cells that a combinator adds to those of its operands, of which the first takes `taken`
 // words and the second gives `given`.
+#[tactic(auto, unfolding(crate::specs::Checked::own_of))]
 fn own(kind: u32, taken: u32, given: u32) -> u32
     requires { (taken ≤ 16) × (given ≤ 16) }
     ensures { result ≡ own_of kind taken given }
