@@ -1,14 +1,14 @@
 -- Cases: document 01's example text, every kind of line and the writer's refusals, computed from the definitions. Assumes nothing.
-use Prim.Native.Nat.{ℕ, zero, suc, ◌^◌}
+use Prim.Native.Nat.{ℕ}
 use Prim.Native.String.{String}
 use mathlib.Core.Path.{◌≡◌, refl}
 use mathlib.Core.List.{List, [], ◌∷◌, ◌++◌, map}
 use lib.ListN.{length, replicate}
-use Rattle.meaning.specs.Choices.{pick, padded}
+use Rattle.meaning.specs.Choices.{padded}
 use Rattle.meaning.specs.Terms.{node_of, below, main_of}
 use Rattle.meaning.specs.Checks.{first_refusal}
 use Rattle.meaning.proofs.Cases.{complement_table}
-use Rattle.circuit.specs.Cells.{ports_of, cell_number}
+use Rattle.circuit.specs.Cells.{ports_of}
 use Rattle.circuit.specs.Netlists.{cell_refusal, netlist_verdict}
 use Rattle.circuit.specs.Simulated.{inputs_given}
 use Rattle.circuit.specs.Compiling.{netlist_of}

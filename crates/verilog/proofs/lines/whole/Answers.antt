@@ -7,6 +7,6 @@ pub returns-clause-wrote : goal.returns-clause-wrote
 unfolding text_of
 returns-clause-wrote c =
     let cells =
-        then (then (then c.names-at.ensures.wrote c.port_lines-at.ensures.wrote) c.cell_lines-at.ensures.wrote)
-        c.cell_lines-at-2.ensures.wrote in
+    then (then (then c.names-at.ensures.wrote c.port_lines-at.ensures.wrote) c.cell_lines-at.ensures.wrote)
+    c.cell_lines-at-2.ensures.wrote in
     then cells c.ending.ensures.wrote
