@@ -2,7 +2,9 @@
 -- How many cells and wires there are, and where the parts of a block stand.
 pub mod Lengths
 pub mod Places
+pub mod Gives
 pub mod Sized
+pub mod Totals
 -- Blocks as functions of the cycle, which behave as the terms that they are made of, and keep the promise where runs start them.
 pub mod Streams
 pub mod Behaves

@@ -13,7 +13,7 @@ use Rattle.circuit.specs.Cells.{Cell, and_cell}
 use Rattle.circuit.specs.Pieces.{◌after◌, Block, Emitter, rise}
 use Rattle.circuit.specs.Blocks.{operation_cell, leaf_block, seq_block, par_block}
 use Rattle.circuit.proofs.Places.{PairPlaces, seq_places, par_places, Each, each-split, each-join}
-use Rattle.circuit.proofs.Sized.{Gives}
+use Rattle.circuit.proofs.Gives.{Gives}
 use Rattle.circuit.proofs.Passes.{
   BitBelow,
   Passes,

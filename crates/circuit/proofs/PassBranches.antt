@@ -25,7 +25,7 @@ use Rattle.circuit.proofs.Places.{
   branch-split,
   branch_join,
 }
-use Rattle.circuit.proofs.Sized.{Gives, gives}
+use Rattle.circuit.proofs.Gives.{Gives, gives}
 use Rattle.circuit.proofs.Passes.{BitBelow, Passes, load_passes, not_passes, and_passes, or_passes, low_passes, high_passes}
 use Rattle.circuit.proofs.PassPieces.{
   HasKind,

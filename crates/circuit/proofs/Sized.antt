@@ -1,44 +1,22 @@
--- Law: a term's block has as many output wires and cells as document 01 counts, and so has the whole circuit. Assumes nothing.
+-- Law: a term's block has as many cells as document 01 counts. Assumes nothing.
 use Prim.Native.Nat.{ℕ, ◌+◌, ◌*◌}
-use mathlib.Core.Path.{◌≡◌, refl, sym, ◌∙◌, ap}
+use mathlib.Core.Path.{◌≡◌, refl, sym, ◌∙◌}
 use mathlib.Core.List.{List, ◌∷◌}
 use native.Mathlib.Omega.{arith}
 use lib.ListN.{length, length-append}
 use Rattle.meaning.specs.Terms.{Term}
-use Rattle.meaning.specs.Counts.{ins, outs, size, whole_size}
-use Rattle.meaning.proofs.Typed.{Typed, leaf_typed, seq_typed, par_typed, ite_typed, rec_typed, typed-ins, typed-outs, Well}
-use Rattle.circuit.specs.Cells.{Cell, stride, and_cell}
+use Rattle.meaning.specs.Counts.{size}
+use Rattle.meaning.proofs.Typed.{Typed, leaf_typed, seq_typed, par_typed, ite_typed, rec_typed, typed-ins, typed-outs}
+use Rattle.circuit.specs.Cells.{Cell, and_cell}
 use Rattle.circuit.specs.Pieces.{◌after◌, Emitter, wires_from, choices}
 use Rattle.circuit.specs.Blocks.{seq_block, par_block, ite_block, rec_block, emit}
-use Rattle.circuit.specs.Compiling.{main_block, whole_cells, netlist_of}
-use Rattle.circuit.proofs.Lengths.{
-  wires-length,
-  kept-length,
-  keeps-length,
-  choices-length,
-  registers-length,
-  inputs-length,
-  numbers-length,
-}
+use Rattle.circuit.proofs.Lengths.{wires-length, kept-length, keeps-length, choices-length, registers-length}
 use Rattle.circuit.proofs.Places.{PairPlaces, seq_places, par_places, BranchPlaces, branch_places, branch_cells, LoopPlaces, loop_places}
+use Rattle.circuit.proofs.Gives.{Gives, gives}
 
--- On i input wires an emitter gives o output wires, and n cells.
-abbrev pub Gives : Emitter → ℕ → ℕ → Type 0
-Gives N i o = (b s : ℕ) (xs : List ℕ) → length xs ≡ i → length (N b s xs).outs ≡ o
-
+-- On i input wires an emitter gives n cells.
 abbrev pub Sizes : Emitter → ℕ → ℕ → Type 0
 Sizes N i n = (b s : ℕ) (xs : List ℕ) → length xs ≡ i → length (N b s xs).cells ≡ n
-
-pub gives : {w : ℕ} {T : Term} {i o : ℕ} → Typed w T i o → Gives (emit T) i o
-gives (leaf_typed e l u h) b s xs q = refl
-gives (seq_typed m tf tg) b s xs q = gives tg _ _ _ (gives tf _ _ _ q)
-gives (par_typed {f = f} {g = g} m n l tf tg) b s xs q =
-    let B : PairPlaces = par_places (emit f) (emit g) b s xs in
-    omega (arith, length-append B.F.outs B.G.outs, gives tf b s xs q, gives tg B.p s xs q)
-gives (ite_typed te tf tg) b s xs q = wires-length _ _ ∙ gives tf _ _ _ (kept-length xs b ∙ q)
-gives (rec_typed te tf tg) b s xs q =
-    let L : LoopPlaces = loop_places b xs in
-    gives tf _ _ _ (kept-length L.us L.k ∙ (wires-length (length xs) L.m ∙ q))
 
 module _ (f g : Emitter) (i p q : ℕ) (sf : Sizes f i p) where
   seq-size : (m : ℕ) → Gives f i m → Sizes g m q → Sizes (seq_block f g) i (p + q + 4)
@@ -103,17 +81,3 @@ sized (ite_typed {e = e} {f = f} {g = g} {i = i} {o = o} te tf tg) =
     (ite-size (emit e) (emit f) (emit g) i (size e) (size f) (size g) (sized te) (sized tf) (sized tg) o (gives tf) (gives tg))
 sized (rec_typed {e = e} {f = f} {g = g} {i = i} te tf tg) =
     rw (← typed-ins te) (rec-size (emit e) (emit f) (emit g) i (size e) (size f) (size g) (sized te) (sized tf) (sized tg) (gives tg))
-
--- The whole circuit of a well-typed term.
-module _ {w : ℕ} {T : Term} (h : Well w T) where
-  pub main-outs : length (main_block T).outs ≡ outs T
-  main-outs = gives h (6 after ins T) (5 after ins T) (wires_from 1 (ins T)) (wires-length (ins T) 1)
-
-  pub main-size : length (main_block T).cells ≡ size T
-  main-size = sized h (6 after ins T) (5 after ins T) (wires_from 1 (ins T)) (wires-length (ins T) 1)
-
-  pub whole-size : length (whole_cells T) ≡ whole_size T
-  whole-size = simp length-append (omega (arith, inputs-length (ins T) 0, main-size))
-
-  pub netlist-length : length (netlist_of T) ≡ whole_size T * stride
-  netlist-length = numbers-length (whole_cells T) ∙ ap (λ (n : ℕ). n * stride) whole-size

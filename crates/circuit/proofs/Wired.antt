@@ -30,7 +30,7 @@ use Rattle.circuit.proofs.Places.{
   Branches,
   branch-split,
 }
-use Rattle.circuit.proofs.Sized.{Gives, gives}
+use Rattle.circuit.proofs.Gives.{Gives, gives}
 use Rattle.circuit.proofs.Behaves.{BehavesAs}
 use Rattle.circuit.proofs.LeafBlock.{leaf-behaves}
 use Rattle.circuit.proofs.SeqBlock.{seq-behaves}

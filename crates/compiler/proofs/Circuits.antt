@@ -23,7 +23,7 @@ use Rattle.circuit.specs.Pieces.{Block, wires_from}
 use Rattle.circuit.specs.Compiling.{input_cells, front, main_block, whole_cells}
 use Rattle.circuit.specs.Compiling.{compile_verdict, emitted, not_emitted, compiled_of, netlist_after}
 use Rattle.circuit.proofs.Lengths.{wires-length, inputs-length}
-use Rattle.circuit.proofs.Sized.{netlist-length}
+use Rattle.circuit.proofs.Totals.{netlist-length}
 use Rattle.pieces.specs.declared.leaves.Made.{Made}
 use Rattle.pieces.specs.Writing.{written}
 use Rattle.compiler.specs.Building.{Known, block_of, Emits}

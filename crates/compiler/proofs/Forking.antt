@@ -14,7 +14,8 @@ use Rattle.circuit.specs.Cells.{Cell, and_cell}
 use Rattle.circuit.specs.Pieces.{◌after◌, Block, Emitter, wires_from, keeps, kept, choices, gates}
 use Rattle.circuit.specs.Blocks.{ite_block, emit}
 use Rattle.circuit.proofs.Lengths.{keeps-length, kept-length}
-use Rattle.circuit.proofs.Sized.{gives, sized}
+use Rattle.circuit.proofs.Gives.{gives}
+use Rattle.circuit.proofs.Sized.{sized}
 use Rattle.pieces.specs.declared.leaves.Made.{Made}
 use Rattle.pieces.specs.declared.seams.Forked as declared
 use Rattle.pieces.specs.Writing.{written, gates_on}

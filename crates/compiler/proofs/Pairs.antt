@@ -15,7 +15,8 @@ use Rattle.circuit.specs.Cells.{and_cell}
 use Rattle.circuit.specs.Pieces.{◌after◌, Block, Emitter, rise}
 use Rattle.circuit.specs.Blocks.{seq_block, par_block, emit}
 use Rattle.circuit.proofs.Places.{PairPlaces, seq_places, par_places}
-use Rattle.circuit.proofs.Sized.{gives, sized}
+use Rattle.circuit.proofs.Gives.{gives}
+use Rattle.circuit.proofs.Sized.{sized}
 use Rattle.pieces.specs.declared.leaves.Made.{Made}
 use Rattle.pieces.specs.Writing.{placed, written}
 use Rattle.compiler.specs.Building.{block_of, Emits}

@@ -29,7 +29,7 @@ use Rattle.circuit.specs.Clock.{wires}
 use Rattle.circuit.specs.Simulated.{inputs_given, inputs_verdict, wire_refusal, power_up_verdict, step_verdict}
 use Rattle.circuit.specs.Promise.{Promise, done_of, outputs_of}
 use Rattle.circuit.proofs.Places.{Each}
-use Rattle.circuit.proofs.Sized.{main-outs, main-size, whole-size, netlist-length}
+use Rattle.circuit.proofs.Totals.{main-outs, main-size, whole-size, netlist-length}
 use Rattle.circuit.proofs.Streams.{Bits, Wires}
 use Rattle.circuit.proofs.Equations.{Obeys}
 use Rattle.circuit.proofs.Whole.{whole-keeps}
