@@ -1,4 +1,4 @@
-//! Links `libpace.a`, the archive of `rt staticlib pace`.
+//! Links `libpace.a`, the archive of `./build pace`.
 
 include!("../tests/differential/link.rs");
 

@@ -1,7 +1,7 @@
 /* Rumiotka: term tables, their circuits and the circuits' cycles, as C functions on numbers.
  *
- * `rt staticlib plugin` proves the functions and writes them to target/staticlib/libplugin.a, which
- * a program links. examples/host.c is a worked host.
+ * `./build plugin` proves the functions and writes them to target/staticlib/libplugin.a, which a
+ * program links. examples/host.c is a worked host.
  *
  * What the host vouches for, at every call:
  *   - Each pointer is to live memory that is aligned for its type and holds as many elements as the

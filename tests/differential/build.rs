@@ -1,4 +1,4 @@
-//! Links `libplugin.a`, the archive of `rt staticlib plugin`.
+//! Links `libplugin.a`, the archive of `./build plugin`.
 
 include!("link.rs");
 

@@ -1,4 +1,4 @@
-// Included by build scripts: links an archive of `rt staticlib` from where rt leaves it.
+// Included by build scripts: links an archive of `./build` from where it is left.
 
 /// Tells cargo where an archive is and to link again when it changes. The variable
 /// `PLUGIN_ARCHIVES` names another directory, for archives that were made elsewhere.

@@ -1,5 +1,5 @@
-// For the benchmark alone: a netlist that is judged once and stepped many times, as a C function
-// in the manner of the plugin's. Document 01: "The simulator".
+// For the benchmark alone: a netlist that is judged once and stepped many times, as a function on
+// numbers in the manner of the plugin's, which `pace_c` hands to C. Document 01: "The simulator".
 #![tactic(auto)]
 
 ghost use Rattle.std.specs.Prelude.{◌≡◌, length};
@@ -39,8 +39,7 @@ fn alternate(
 
 // Judges once, with `even` as the wires of the cycle before and `odd` as the room for the next,
 // and then steps `pairs` times from `even` into `odd` and back. Answers: refusal number, place.
-#[unsafe(no_mangle)]
-pub extern "C" fn rumiotka_pace(
+pub fn rumiotka_pace(
     width: u32,
     netlist: &[u32],
     even: &mut [u32],

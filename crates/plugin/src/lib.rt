@@ -1,6 +1,6 @@
-// The plugin's C interface: each part as a function on numbers, which `include/rumiotka.h` declares
-// for a host. Every call is taken as it comes: a function writes its answer, refusals included,
-// and what its part writes. Document 01: "Refusal numbers" and the sections of the parts.
+// The plugin's interface: each part as a function on numbers, which `plugin_c` hands to C. Every
+// call is taken as it comes: a function writes its answer, refusals included, and what its part
+// writes. Document 01: "Refusal numbers" and the sections of the parts.
 #![tactic(auto)]
 
 mod numbers;
@@ -14,8 +14,7 @@ ghost use Rattle.verilog.specs.Writing.{written_of, written_numbers, text_after}
 
 // Evaluates a table on words. Answers: refusal number, place, 1 if ended else 0, cycles, o, and
 // 16 words.
-#[unsafe(no_mangle)]
-pub extern "C" fn rumiotka_evaluate(
+pub fn rumiotka_evaluate(
     width: u32,
     table: &[u32],
     words: &[u32],
@@ -30,8 +29,7 @@ pub extern "C" fn rumiotka_evaluate(
 
 // Compiles a table into `netlist`. Answers: refusal number, place, cells, i, o, the done wire, and
 // 16 output wires.
-#[unsafe(no_mangle)]
-pub extern "C" fn rumiotka_compile(
+pub fn rumiotka_compile(
     width: u32,
     table: &[u32],
     netlist: &mut [u32],
@@ -46,8 +44,7 @@ pub extern "C" fn rumiotka_compile(
 }
 
 // Writes all wires of a netlist's cycle 0 into `wires`. Answers: refusal number, place.
-#[unsafe(no_mangle)]
-pub extern "C" fn rumiotka_power_up(
+pub fn rumiotka_power_up(
     width: u32,
     netlist: &[u32],
     load: u32,
@@ -66,8 +63,7 @@ pub extern "C" fn rumiotka_power_up(
 }
 
 // Writes all wires of the cycle after `before` into `after`. Answers: refusal number, place.
-#[unsafe(no_mangle)]
-pub extern "C" fn rumiotka_step(
+pub fn rumiotka_step(
     width: u32,
     netlist: &[u32],
     before: &[u32],
@@ -87,8 +83,7 @@ pub extern "C" fn rumiotka_step(
 }
 
 // Writes a netlist as Verilog into `text`. Answers: refusal number, place, the text's length.
-#[unsafe(no_mangle)]
-pub extern "C" fn rumiotka_write(
+pub fn rumiotka_write(
     width: u32,
     netlist: &[u32],
     i: u32,

@@ -3,12 +3,30 @@
 // is seen. What is printed is `console::respond`'s, proved.
 #![tactic(auto)]
 
-use libc::{STDIN_FILENO, STDOUT_FILENO};
+ghost use Rattle.std.specs.Prelude.{◌≤◌};
 
-fn main() {
+use std::io;
+use std::io::{Print, Read, Stdin};
+
+// Reads until `input` is full, the input ends or a read fails, and answers how many bytes it read.
+fn read_full(mut from: Stdin, input: &mut [u8; 16385]) -> usize
+    ensures { result ≤ 16385 }
+{
+    let mut count = 0;
+    while count < input.len() {
+        match from.read(&mut input[count..]) {
+            Ok(0) => break,
+            Ok(n) => count += n,
+            Err(_) => break,
+        }
+    }
+    count
+}
+
+fn main(rt: HostRuntime) -> io::Result<()> {
     let mut input = [0u8; 16385];
-    let count = io::read_full(STDIN_FILENO, &mut input);
-    let mut text = io::large_buffer();
+    let count = read_full(rt.stdin(), &mut input);
+    let mut text = [0u8; 65536];
     let length = console::respond(&input[..count], &mut text);
-    io::write_all(STDOUT_FILENO, &text[..length]);
+    rt.write_all(&text[..length])
 }
