@@ -29,12 +29,7 @@ pub fn rumiotka_evaluate(
 
 // Compiles a table into `netlist`. Answers: refusal number, place, cells, i, o, the done wire, and
 // 16 output wires.
-pub fn rumiotka_compile(
-    width: u32,
-    table: &[u32],
-    netlist: &mut [u32],
-    answer: &mut [u32; 22],
-)
+pub fn rumiotka_compile(width: u32, table: &[u32], netlist: &mut [u32], answer: &mut [u32; 22])
     ensures answer_after { answer.new ≡ compiled_numbers
         (compiled_of width table.now (length netlist.old)) }
     ensures netlist_after { netlist.new ≡
