@@ -33,7 +33,7 @@ emit-returns-in_default t c =
     leaf-plan c.requires.known (λ q. omega (arith, e, q)) (λ q. omega (arith, e, q)) (λ q. omega (arith, e, q))
     (λ q. omega (arith, e, q)) in
     rw z.decoded (leaf-emits _ _ _ _ _ _ _ _ _ _ _ z.fits c.leaf.ensures.0 c.leaf.ensures.1
-    (c.leaf.ensures.2 ∙ rw (e, c.number.ensures) refl))
+    (rw (e, c.number.ensures) at c.leaf.ensures.2))
 
 pub fork-emit-test-requires : goal.fork-emit-test-requires
 fork-emit-test-requires t c =
