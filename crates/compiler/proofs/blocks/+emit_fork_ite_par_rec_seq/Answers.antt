@@ -1,6 +1,6 @@
 -- Each function of the cycle: its plan (`proofs.Plans`) names its operands and their sizes, `proofs.Rooms` the room for each of them,
 -- and `Pairs`, `Forking`, `Loops` and `Leaves` say what stands when its calls are done.
-use Rattle.std.proofs.Common.{◌≡◌, ◌+◌, ◌*◌, ◌∙◌, refl, ap, length, arith}
+use Rattle.std.proofs.Common.{◌+◌, ◌*◌, ◌∙◌, refl, ap, length, arith}
 use Rattle.meaning.specs.Choices.{at}
 use Rattle.pieces.proofs.Turns.{kept-sixteen}
 use Rattle.pieces.proofs.Seaming.{words-sixteen, held-sixteen}
@@ -116,7 +116,7 @@ ite-merge-requires t c =
     let z = ite-plan s.known c.requires.1 in
     let p = z.fork in
     let b : ForkedAt c.args.table.now c.args.k (c.args.at + 2 * at c.args.ins.now c.args.k) c.fork-both.new.live
-        c.fork-both.new.kept c.fork-both.result =
+    c.fork-both.new.kept c.fork-both.result =
     fork-answer p.test.typed p.yes.typed p.no.typed p.same_f p.same_g _ _ _ _ s.sixteen
     (ap length c.keep.ensures.0 ∙ kept-sixteen _ _ _ z.few_ins s.sixteen) c.fork-both.ensures in (
       z.few_outs,
@@ -238,7 +238,7 @@ rec-feed-requires t c =
     let z = rec-plan s.known c.requires.1 in
     let p = z.fork in
     let b : ForkedAt c.args.table.now c.args.k (c.args.at + 2 + 4 * at c.args.ins.now c.args.k) c.fork-both.new.live
-        c.fork-both.new.kept c.fork-both.result =
+    c.fork-both.new.kept c.fork-both.result =
     fork-answer p.test.typed p.yes.typed p.no.typed p.same_f p.same_g _ _ _ _
     (ap length c.round.ensures.0 ∙ words-sixteen _ c.args.start _ _ z.few_ins s.sixteen)
     (ap length c.round.ensures.1 ∙ held-sixteen _ c.args.start _ _ z.few_ins s.sixteen) c.fork-both.ensures in (
