@@ -1,14 +1,13 @@
 -- Law: what a list of numbers that was read tells of the array that holds it. `respond` cites it. Assumes nothing.
-use Prim.Native.Nat.{ℕ, ◌+◌, ◌-◌, ◌≤◌, ◌<◌}
+use Prim.Native.Nat.{ℕ, ◌-◌, ◌≤◌}
 use mathlib.Core.Path.{◌≡◌, refl, sym, ap, ◌∙◌}
-use mathlib.Core.Bool.{Bool, true, false}
-use mathlib.Core.List.{List, [], ◌∷◌, ◌++◌}
+use mathlib.Core.List.{List, ◌++◌}
 use native.Mathlib.Omega.{arith}
 use lib.Dec.{leb}
 use lib.ListN.{length, get_or, take, drop, replicate, length-append, length-drop, length-replicate, get_or-append}
 use lib.Seq.{take_at, drop-append-le}
 use borrow.Author.Tests.{leb-true}
-use Rattle.meaning.specs.Choices.{pick, and, padded}
+use Rattle.meaning.specs.Choices.{and}
 use Rattle.meaning.proofs.Tests.{by-test, both}
 use Rattle.numbers.specs.declared.Listed.{Listed}
 use Rattle.numbers.specs.declared.Reading.TheVariants as reading

@@ -1,6 +1,6 @@
 -- Law: what the compiler's and the writer's answers tell of their judgements. `Printing` cites it. Assumes nothing.
 use Prim.Native.Nat.{ℕ}
-use mathlib.Core.Path.{◌≡◌, refl, sym}
+use mathlib.Core.Path.{◌≡◌, refl}
 use mathlib.Core.Bool.{Bool, true, false}
 use native.Mathlib.Omega.{arith}
 use Rattle.meaning.specs.declared.Verdict.{Verdict}
@@ -9,11 +9,8 @@ use Rattle.meaning.specs.Choices.{pick}
 use Rattle.meaning.specs.Terms.{Term}
 use Rattle.meaning.specs.Counts.{ins, outs, whole_size}
 use Rattle.meaning.specs.Answers.{on_verdict}
-use Rattle.circuit.specs.declared.Emission.{Emission}
 use Rattle.circuit.specs.declared.Emission.TheVariants as emission
-use Rattle.circuit.specs.declared.Compiled.{Compiled}
 use Rattle.circuit.specs.Compiling.{main_block, emitted, not_emitted}
-use Rattle.verilog.specs.declared.Written.{Written}
 use Rattle.verilog.specs.declared.Written.TheVariants as written
 
 -- A judgement of two steps accepts where both do.

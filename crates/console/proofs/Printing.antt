@@ -1,11 +1,9 @@
 -- Law: what is printed for a width and a table, step by step: a refusal of the compiler, of the writer, or the text.
 -- `print` cites it. Assumes nothing.
-use Prim.Native.Nat.{ℕ, ◌+◌, ◌*◌, ◌≤◌, ◌<◌}
+use Prim.Native.Nat.{ℕ, ◌+◌, ◌*◌, ◌≤◌}
 use mathlib.Core.Path.{◌≡◌, refl, sym, ap, ◌∙◌}
-use mathlib.Core.Bool.{true}
 use mathlib.Core.List.{List, ◌++◌}
 use native.Mathlib.Nat.{zero-add}
-use native.Mathlib.Omega.{arith}
 use lib.Dec.{leb}
 use lib.ListN.{length, take, drop}
 use lib.Seq.{take_at}
@@ -25,7 +23,6 @@ use Rattle.promise.proofs.Holds.{netlist-size}
 use Rattle.verilog.specs.declared.Written.{Written}
 use Rattle.verilog.specs.declared.Written.TheVariants as written
 use Rattle.spelling.specs.Pieces.{placed, Wrote}
-use Rattle.verilog.specs.Texts.{text_of}
 use Rattle.ports.specs.Interface.{ports_fit}
 use Rattle.verilog.specs.Writing.{write_verdict, written_of, text_after}
 use Rattle.console.specs.Messages.{refused_line}
