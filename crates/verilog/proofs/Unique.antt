@@ -1,6 +1,6 @@
 -- Law: the contract of `write` leaves no choice: two answers that meet it on the same arguments are the same, and so are the
 -- buffers afterwards. Assumes nothing.
-use Prim.Native.Nat.{ℕ, suc}
+use Prim.Native.Nat.{ℕ}
 use mathlib.Core.Path.{◌≡◌, sym, ◌∙◌}
 use mathlib.Core.List.{List}
 use lib.ListN.{length}
