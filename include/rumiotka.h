@@ -17,9 +17,9 @@
  * refused call writes zeros in the rest of its answer, and nothing in any other array. Elements
  * past those that a call writes stay as they were.
  *
- * Tables, netlists, words and refusal numbers are those of the document "Terms, cells and the
- * handshake": four numbers a term (kind, a, b, c), four numbers a cell (kind, x, y, z), one number
- * a wire, and every word below 2^width.
+ * Tables, netlists, words and refusal numbers are those of docs/READING.md: four numbers a term
+ * (kind, a, b, c), four numbers a cell (kind, x, y, z), one number a wire, and every word below
+ * 2^width.
  */
 #ifndef RUMIOTKA_H
 #define RUMIOTKA_H

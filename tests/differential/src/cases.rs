@@ -60,7 +60,7 @@ fn message(payload: &(dyn Any + Send)) -> String {
     text.or_else(|| payload.downcast_ref().cloned()).unwrap_or("stopped without words".to_string())
 }
 
-/// Of twenty cases one tries demand 3, four are calls with chosen faults, in turn, and the rest
+/// Of twenty cases one tries the handshake, four are calls with chosen faults, in turn, and the rest
 /// are calls of any sort.
 fn sorted(random: &mut Random, number: u64, tally: &mut Tally) -> Result<(), String> {
     let turn = number / 20;

@@ -1,5 +1,5 @@
 //! Checks a netlist of cells, made by the compiler or not.
-//! Refuses 1 and 12 to 16, each with its place. Document 01: "Cells", "Refusal numbers".
+//! Refuses 1 and 12 to 16, each with its place. docs/READING.md: "Cells", "Refusal numbers".
 
 use crate::words::{is_width, largest};
 use crate::Refusal;
@@ -49,7 +49,7 @@ pub fn is_register(kind: u32) -> bool {
     matches!(kind, 4 | 5 | 10)
 }
 
-/// Checks width and netlist by numbers 1 and 12 to 16, in the order document 01 gives.
+/// Checks width and netlist by numbers 1 and 12 to 16, in the order that is fixed.
 pub fn check(width: u32, netlist: &[u32]) -> Result<(), Refusal> {
     if !is_width(width) {
         return Err((1, 0));

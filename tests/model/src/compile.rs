@@ -1,7 +1,7 @@
 //! Compiles a table to a netlist of cells, four numbers a cell.
-//! Refuses 1 to 10; a refused call leaves the buffer as it was. Document 01: "Cells".
+//! Refuses 1 to 10; a refused call leaves the buffer as it was. docs/READING.md: "Cells".
 //!
-//! Cells are pushed in the order of the document. A register that reads a wire not yet known is
+//! Cells are pushed in the order that is fixed. A register that reads a wire not yet known is
 //! pushed with a 0 and mended once the wire is there; sizes play no part in the wiring.
 
 use crate::table::{check, Facts};

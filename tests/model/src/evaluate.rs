@@ -1,5 +1,5 @@
 //! Evaluates a table on given words: the words it gives and the cycles it takes.
-//! Refuses 1 to 9 and 11. Document 01: "Term tables", "Cycles".
+//! Refuses 1 to 9 and 11. docs/READING.md: "Term tables", "Cycles".
 //!
 //! Rounds of a loop are turns of a Rust loop and not calls, so that long runs need no stack. A
 //! loop whose words come back to what they were never ends, whatever the budget: that is noticed,

@@ -1,22 +1,22 @@
-//! An independent model of document 01, written from that document alone.
+//! An independent model of the rules of docs/READING.md, written from the rules alone.
 //!
 //! It answers what every part of the toolchain has to answer, so that other implementations can be
-//! compared with it. It favours the document's own words over speed, and depends on nothing but
-//! the standard library. The modules follow the document's order:
+//! compared with it. It favours the rules' own words over speed, and depends on nothing but
+//! the standard library. The modules follow the rules' order:
 //!
 //! - `words`: numbers below 2^W and the operations on them;
 //! - `table`: checks 1 to 9, word counts and sizes;
 //! - `evaluate`: the words and cycles of a table on given words, with `straight` for long loops;
 //! - `compile`: from a table to cells;
 //! - `cells`: checks 12 to 16;
-//! - `runs`: document 01's small runs;
+//! - `runs`: the small runs;
 //! - `simulate`: one cycle of a netlist;
 //! - `verilog`: the text of a netlist;
 //! - `program`: what the program prints for its input.
 //!
 //! Besides these, `toolchain` names the five calls so that another implementation can stand in,
 //! `random` makes inputs of every sort, `differ` compares two implementations on whole calls,
-//! `promise` tries demand 3 on one, and `icarus` compares wires with Icarus Verilog.
+//! `promise` tries the handshake on one, and `icarus` compares wires with Icarus Verilog.
 
 pub mod cells;
 pub mod compile;
@@ -34,7 +34,7 @@ pub mod toolchain;
 pub mod verilog;
 pub mod words;
 
-/// A refusal: its number and its place, as document 01 lists them.
+/// A refusal: its number and its place.
 pub type Refusal = (u32, u32);
 
 /// The most words that a term or a call may take or give.

@@ -1,5 +1,5 @@
 //! Says what the program prints for the bytes of its standard input: the Verilog text, a refusal,
-//! or that the bytes are no list of numbers. Document 01: "The Verilog text".
+//! or that the bytes are no list of numbers. docs/READING.md: "The Verilog text".
 
 use crate::compile::compile;
 use crate::verilog::write;

@@ -1,4 +1,4 @@
-//! Tries demand 3 on a toolchain: what the evaluator says of a table is what its circuit does, in
+//! Tries the handshake on a toolchain: what the evaluator says of a table is what its circuit does, in
 //! any number of runs, under any load and any words. The evaluator here is the model's, compiler
 //! and simulator are the toolchain's.
 

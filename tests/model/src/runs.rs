@@ -1,5 +1,5 @@
-//! Document 01's small runs 1 to 8, on any toolchain. A run that does not come out as the document
-//! says panics.
+//! The small runs 1 to 8 of docs/READING.md, on any toolchain. A run that does not come out as it
+//! must panics.
 
 use crate::toolchain::Toolchain;
 use crate::MOST_WORDS;
@@ -12,7 +12,7 @@ const COUNTDOWN: [u32; 40] = [
     9, 1, 1, 0,  2, 0, 5, 0,  14, 0, 0, 0,  1, 6, 7, 0,  4, 4, 0, 8,
 ];
 
-/// Run 4's table. The first word of the answer is Const 0 (term 1), as document 001 writes `0w`.
+/// Run 4's table. The first word of the answer is Const 0 (term 1), and not Field 0.
 #[rustfmt::skip]
 const MULTIPLIER: [u32; 76] = [
     12, 3, 0, 0,  9, 3, 0, 0,  2, 0, 1, 0,  18, 0, 0, 0,  1, 2, 3, 0,

@@ -1,6 +1,6 @@
 //! Gives the wires of a netlist, one cycle a call.
 //! Refuses 1, 12 to 16, 17, 18 (not at power-up) and 11, in this order, and then writes nothing.
-//! Document 01: "The simulator".
+//! docs/READING.md: "The simulator".
 
 use crate::cells::{check, is_bit};
 use crate::words::{apply, largest};

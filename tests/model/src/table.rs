@@ -1,5 +1,5 @@
 //! Checks a term table and gives what is known of each term: word counts and size in cells.
-//! Refuses 1 to 9, each with its place. Document 01: "Term tables", "Cells", "Refusal numbers".
+//! Refuses 1 to 9, each with its place. docs/READING.md: "Term tables", "Cells", "Refusal numbers".
 
 use crate::words::{is_width, largest};
 use crate::Refusal;
@@ -58,7 +58,7 @@ fn roles(kind: u32) -> Option<[Role; 3]> {
     }
 }
 
-/// Checks a table by numbers 1 to 9, in the order document 01 gives.
+/// Checks a table by numbers 1 to 9, in the order that is fixed.
 pub fn check(width: u32, table: &[u32]) -> Result<Facts, Refusal> {
     let facts = facts(width, table)?;
     if facts.cells() > MOST_CELLS {
@@ -132,7 +132,7 @@ fn counts(facts: &Facts, term: &[u32]) -> Option<(u32, u32)> {
     }
 }
 
-/// Gives the cells of a term's block from those of its operands, by the sums document 01 prints.
+/// Gives the cells of a term's block from those of its operands, by the sums of "Cells".
 fn size(facts: &Facts, term: &[u32], inputs: u32, outputs: u32) -> u128 {
     let own = match term[0] {
         1 => 4,

@@ -3,7 +3,7 @@
 
 use crate::MOST_WORDS;
 
-/// The five calls of document 01, with the model's shapes of arguments and answers.
+/// The five calls, with the model's shapes of arguments and answers.
 pub trait Toolchain {
     /// Answers number, place, 1 if ended, cycles, o and 16 words.
     fn evaluate(&self, width: u32, table: &[u32], words: &[u32], budget: u32) -> [u32; 21];

@@ -1,6 +1,6 @@
 //! Writes a netlist as structural Verilog.
 //! Refuses 1, 12 to 16, 19 and 20; a refused call leaves the buffer as it was.
-//! Document 01: "The Verilog text".
+//! docs/READING.md: "The Verilog text".
 
 use crate::cells::{check, is_bit, is_register, is_word};
 use crate::{Refusal, MOST_WORDS};

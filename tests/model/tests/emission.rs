@@ -1,4 +1,4 @@
-//! The cells of one term of each kind, written out by hand from document 01's "Cells".
+//! The cells of one term of each kind, written out by hand.
 
 use model::compile::compile;
 

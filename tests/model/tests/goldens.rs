@@ -1,5 +1,5 @@
 //! The model gives what the goldens in `tests/designs` and `tests/refuse` hold, so that they can't
-//! be renewed to something that document 01 doesn't say.
+//! be renewed to something that the rules don't say.
 
 use model::program::respond;
 use std::path::{Path, PathBuf};

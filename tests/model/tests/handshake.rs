@@ -1,4 +1,4 @@
-//! Demand 3 on random accepted tables, and the sizes of compiled circuits.
+//! The handshake on random accepted tables, and the sizes of compiled circuits.
 
 use model::promise::{attempt, Tally};
 use model::random::netlists::compiled;

@@ -1,4 +1,4 @@
-//! Document 01's small runs 1 to 8 on the model, and what the program prints for run 1.
+//! The small runs 1 to 8 of docs/READING.md on the model, and what the program prints for run 1.
 
 use model::program::respond;
 use model::runs::{RUNS, TEXT};

@@ -1,4 +1,4 @@
-//! `respond`: prints for its standard input what document 01's program has to print.
+//! `respond`: prints for its standard input what the program has to print.
 
 use std::io::{Read, Result, Write};
 

@@ -20,7 +20,7 @@ pub enum Part {
 }
 
 impl Part {
-    /// All parts, in the order of document 01.
+    /// All parts, in order.
     pub const ALL: [Part; 5] =
         [Part::Evaluate, Part::Compile, Part::PowerUp, Part::Step, Part::Write];
 

@@ -1,4 +1,4 @@
-//! Makes tables at the limits of document 01: as many terms as there may be, as many cells as there
+//! Makes tables at the limits: as many terms as there may be, as many cells as there
 //! may be or one more, and terms in terms as deep as both allow.
 
 use super::Random;
