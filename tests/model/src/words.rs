@@ -1,5 +1,5 @@
 //! Words of W bits: which numbers are words, and what the ten operations make of them.
-//! docs/READING.md: "Term tables". Callers judge the width first.
+//! docs/READING.md: "Term tables", kinds 13 to 22. Callers judge the width first.
 
 /// Says whether a table or a netlist may have this width.
 pub fn is_width(width: u32) -> bool {
