@@ -69,7 +69,8 @@ module _ (w given count : ℕ) (kinds : ℕ → ℕ) (wide : 1 ≤ w) where
       word_read : (x : ℕ) → WordBelow kinds n x → read x < 2 ^ w
       word_read x a = (lower x a.0).as_word a.1
 
-      cell-ranged : {c : Cell} → Passes w given count kinds n c → kinds n ≡ kind_of_cell c → Ranged w kinds n (value w load words held read c)
+      cell-ranged : {c : Cell} → Passes w given count kinds n c → kinds n ≡ kind_of_cell c →
+          Ranged w kinds n (value w load words held read c)
       cell-ranged load_passes e = bit-ranged n _ (omega arith) (num-le load)
       cell-ranged (not_passes x a) e = bit-ranged n _ (omega arith) (num-le (not (bit (read x))))
       cell-ranged (and_passes x y a b) e = bit-ranged n _ (omega arith) (num-le (and (bit (read x)) (bit (read y))))

@@ -204,7 +204,8 @@ module _ (S : Run) where
     on-rest : Each (Obeys S) (loop_places b xs).k rest
 
   head : (b s : ℕ) (xs ys : List ℕ) (again : ℕ) (rest : List Cell) → length ys ≡ length xs →
-      Each (Obeys S) b (low_register again ∷ (registers ys ++ (or_cell s b ∷ (choices b (wires_from (1 after b) (length xs)) xs ++ rest)))) →
+      Each (Obeys S) b (low_register again ∷ (registers ys ++
+      (or_cell s b ∷ (choices b (wires_from (1 after b) (length xs)) xs ++ rest)))) →
       Head b s xs ys again rest
   head b s xs ys again rest e h =
       let L : LoopPlaces = loop_places b xs in

@@ -36,7 +36,8 @@ limited-fair (numbers ms) =
 
 fair : (l : List ℕ) → Fair (numbers_in l)
 unfolding Fair numbers_in
-fair l = by-test Fair (leb (length l) 16384) (limited (read_from l begun)) not_numbers (λ t. limited-fair (read_from l begun)) (λ t. none-fair)
+fair l = by-test Fair (leb (length l) 16384) (limited (read_from l begun)) not_numbers
+    (λ t. limited-fair (read_from l begun)) (λ t. none-fair)
 
 -- The array of a list with so many numbers: the width first, then the table.
 pub record Given (line array : List ℕ) (count : ℕ) : Type 0 where

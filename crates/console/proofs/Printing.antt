@@ -93,7 +93,8 @@ module _ (w : ℕ) (t : List ℕ) (C : Compiled) (made : C ≡ compiled_of w t 2
           (main_of t)) 65536
       answered =
           answers ∙ same-call (λ n a b f ws. written_of w n a b f ws (length text)) same emits.takes emits.gives emits.ends wired ∙
-          ap (written_of w (netlist_of (main_of t)) (ins (main_of t)) (outs (main_of t)) (main_block (main_of t)).done (out_wires (main_of t)))
+          ap (written_of w (netlist_of (main_of t)) (ins (main_of t)) (outs (main_of t)) (main_block (main_of t)).done
+          (out_wires (main_of t)))
           (sym long)
 
       left : after ≡ text_after w (netlist_of (main_of t)) (ins (main_of t)) (outs (main_of t)) (main_block (main_of t)).done (out_wires

@@ -69,7 +69,8 @@ module _ {w : ℕ} {t given : List ℕ} (r : Ready w t given) where
         q ∙ (cc (o, n, v) ∙ ap (answered (outs (main_of t))) (sym g.result ∙ unpadded))
 
 -- What the checks of a table tell.
-by-verdict : (P : Facts → Verdict → Type 0) (w : ℕ) (t : List ℕ) → (verdict_of w t ≡ verdict.Accepted → P (known_facts t) verdict.Accepted) →
+by-verdict : (P : Facts → Verdict → Type 0) (w : ℕ) (t : List ℕ) →
+    (verdict_of w t ≡ verdict.Accepted → P (known_facts t) verdict.Accepted) →
     ((n p : ℕ) → verdict_of w t ≡ verdict.Refused n p → P (no_facts n p) (verdict.Refused n p)) → P (facts_of w t) (verdict_of w t)
 unfolding facts_of
 by-verdict P w t f g = go (verdict_of w t) refl

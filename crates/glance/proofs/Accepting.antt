@@ -43,7 +43,8 @@ module _ (w : ℕ) (net earlier : List ℕ) (words : Words) (all : AllSound w ne
   checked = scan-passes (cell_refusal w net) (cell_count net) 0 verdict.Accepted (λ j l u. (all j (omega arith)).unrefused)
 
   ranged : first_refusal (wire_refusal w net earlier) (cell_count net) 0 (inputs_verdict w net words) ≡ inputs_verdict w net words
-  ranged = scan-passes (wire_refusal w net earlier) (cell_count net) 0 (inputs_verdict w net words) (λ j l u. rw (all j (omega arith)).ranged)
+  ranged = scan-passes (wire_refusal w net earlier) (cell_count net) 0 (inputs_verdict w net words)
+      (λ j l u. rw (all j (omega arith)).ranged)
 
   pub accepted : (room : ℕ) → width_fits w ≡ true → netlist_fits net ≡ true → length earlier ≡ cell_count net → room ≡ cell_count net →
       leb (length words) 16 ≡ true → all_below (2 ^ w) words ≡ true → step_verdict w net earlier words room ≡ verdict.Accepted

@@ -18,7 +18,8 @@ one_wire net n m word = and (below net m word (cell_number net n 1)) (lone net n
 
 -- It reads two lower wires.
 abbrev pub two_wires : List ℕ → ℕ → Bool → Bool
-two_wires net n word = and (below net n word (cell_number net n 1)) (and (below net n word (cell_number net n 2)) (eqb (cell_number net n 3) 0))
+two_wires net n word = and (below net n word (cell_number net n 1))
+    (and (below net n word (cell_number net n 2)) (eqb (cell_number net n 3) 0))
 
 -- It reads a lower bit and two lower words.
 abbrev pub choice : List ℕ → ℕ → Bool

@@ -46,7 +46,8 @@ module _ {bytes array : List ℕ} {count value j : ℕ} {inside : Bool} (u : Und
       same = ap limited (sym (read-digit _ _ _ d l)) ∙ goes;
     }
 
-    pub digit-large : is_digit (get_or bytes j 0) ≡ true → 2 ^ 32 ≤ grown value (get_or bytes j 0) → limited (read_from bytes begun) ≡ not_numbers
+    pub digit-large : is_digit (get_or bytes j 0) ≡ true → 2 ^ 32 ≤ grown value (get_or bytes j 0) →
+        limited (read_from bytes begun) ≡ not_numbers
     digit-large d l = sym goes ∙ ap limited (read-large _ _ _ d l)
 
     module _ (d : is_digit (get_or bytes j 0) ≡ false) where

@@ -18,7 +18,8 @@ use Rattle.plugin.proofs.rumiotka_write.Kinds as write-kinds
 use Rattle.plugin.proofs.rumiotka_write.Reads as write-reads
 
 -- What `seen` reads of a call's exit is the same at any two exits that meet the contract.
-abbrev Settled : (n : ℕ) (ps : List (ParamKind n)) (r : ResultKind n) → Out n ps r → ((κs : Lfts n) → AtExit (ended_of n ps r) κs → List ℕ) → Type 0
+abbrev Settled : (n : ℕ) (ps : List (ParamKind n)) (r : ResultKind n) → Out n ps r →
+    ((κs : Lfts n) → AtExit (ended_of n ps r) κs → List ℕ) → Type 0
 Settled n ps r meets seen =
     (κs : Lfts n) (a : Dens κs ps) (r₁ r₂ : (res_t r κs).Denot) (s₁ s₂ : AtExit (ended_of n ps r) κs) →
     meets κs a r₁ s₁ → meets κs a r₂ s₂ → seen κs s₁ ≡ seen κs s₂

@@ -161,7 +161,8 @@ module _ (w : ℕ) (t : List ℕ) (ok : verdict_of w t ≡ verdict.Accepted) whe
           wire-in-range w net netlist-accepted (wires w starts net load inputs k) n l
           (in-range w net netlist-checked starts small load inputs input-below k n l)
 
-      pub step-accepted : (k : ℕ) → step_verdict w net (wires w starts net load inputs k) (inputs (suc k)) (cell_count net) ≡ verdict.Accepted
+      pub step-accepted : (k : ℕ) → step_verdict w net (wires w starts net load inputs k) (inputs (suc k))
+          (cell_count net) ≡ verdict.Accepted
       unfolding step_verdict
       step-accepted k = rw (
         netlist-accepted,

@@ -127,7 +127,8 @@ shared-breaks P = clash true refl (P.low 1 2 2 (5 ∷ []) refl refl 2 (omega ari
 -- start has passed. The checks accept it; the second run shows the first run's word.
 abbrev once_cells : List Cell
 once_cells =
-    load_cell ∷ input_cell 0 ∷ high_register 0 ∷ not_cell 2 ∷ high_register 7 ∷ and_cell 0 3 ∷ and_cell 5 4 ∷ not_cell 6 ∷ word_register 14 ∷
+    load_cell ∷ input_cell 0 ∷ high_register 0 ∷ not_cell 2 ∷ high_register 7 ∷ and_cell 0 3 ∷ and_cell 5 4 ∷
+    not_cell 6 ∷ word_register 14 ∷
     cell 20 1 0 0 ∷ low_register 11 ∷ or_cell 6 10 ∷ not_cell 10 ∷ and_cell 6 12 ∷ choice_cell 13 9 8 ∷ []
 
 once-accepted : netlist_verdict 8 (numbers_of once_cells) ≡ verdict.Accepted

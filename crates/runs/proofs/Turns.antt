@@ -120,7 +120,8 @@ module _ (w : ℕ) (T F G : Term) (whole : T ≡ par F G) (start limit : ℕ) (x
         (par-stops-second w F G (limit - start) x p.cycles p.words p.result (was-unfinished w G start limit x e z l h)))
 
     pub par-done : (d : ℕ) (z : Words) (q : Gave w G start limit x d z) (n : ℕ) → length p.words ≡ n → n + length q.words ≤ 16 →
-        (e : End) (array : Words) → e ≡ Ended (max c d) → array ≡ side_by_side y n z → Leaves (run_from (evaluate w T) start limit x) e array
+        (e : End) (array : Words) → e ≡ Ended (max c d) → array ≡ side_by_side y n z →
+        Leaves (run_from (evaluate w T) start limit x) e array
     par-done d z q n i s e array g h =
         let t : max c d ≡ start + max p.cycles q.cycles = omega (arith, p.time, q.time) in
         let held : array ≡ padded 16 (p.words ++ q.words) =

@@ -51,7 +51,8 @@ step-ready w net earlier words room e =
     (first_refusal (wire_refusal w net earlier) (cell_count net) 0 (inputs_verdict w net words)) 17 0 a.1 in
     let d = both (eqb (length earlier) (cell_count net)) (eqb room (cell_count net)) b.0 in
     let scan = rw (scan-then (wire_refusal w net earlier) (cell_count net) 0 (inputs_verdict w net words)) at b.1 in
-    let f = two-accept (first_refusal (wire_refusal w net earlier) (cell_count net) 0 verdict.Accepted) (inputs_verdict w net words) scan in (
+    let f = two-accept (first_refusal (wire_refusal w net earlier) (cell_count net) 0 verdict.Accepted)
+    (inputs_verdict w net words) scan in (
       record { checked = a.0; named = inputs-named w net words f.1; fitting = eqb-true _ _ d.1 },
       eqb-true _ _ d.0,
     )

@@ -31,7 +31,8 @@ module _ (w : ℕ) (net : List ℕ) (words : Words) where
 
 -- Power-up.
 module _ (w : ℕ) (net : List ℕ) (words : Words) (room : ℕ) where
-  pub first-netlist : (r : Verdict) → r ≡ netlist_verdict w net → (n p : ℕ) → r ≡ verdict.Refused n p → r ≡ power_up_verdict w net words room
+  pub first-netlist : (r : Verdict) → r ≡ netlist_verdict w net → (n p : ℕ) → r ≡ verdict.Refused n p →
+      r ≡ power_up_verdict w net words room
   unfolding power_up_verdict
   first-netlist r e n p h = rw (sym e ∙ h) h
 
@@ -71,7 +72,12 @@ module _ (w : ℕ) (net earlier : List ℕ) (words : Words) (room : ℕ) where
 
         pub step-wires : (r : Verdict) → r ≡ scan verdict.Accepted → (n p : ℕ) →
             r ≡ verdict.Refused n p → r ≡ step_verdict w net earlier words room
-        step-wires r e n p h = rw (judged, scan-then (wire_refusal w net earlier) (cell_count net) 0 (inputs_verdict w net words), sym e ∙ h) h
+        step-wires r e n p h = rw (
+          judged,
+          scan-then (wire_refusal w net earlier) (cell_count net) 0
+              (inputs_verdict w net words),
+          sym e ∙ h,
+        ) h
 
         pub step-inputs : scan verdict.Accepted ≡ verdict.Accepted → inputs_verdict w net words ≡ step_verdict w net earlier words room
         step-inputs e = rw (judged, scan-then (wire_refusal w net earlier) (cell_count net) 0 (inputs_verdict w net words), e)

@@ -138,7 +138,8 @@ calls-answer : map (answers every_kind)
     (0 ∷ 0 ∷ 890 ∷ []) ∷ (20 ∷ 0 ∷ 0 ∷ []) ∷ (1 ∷ 0 ∷ 0 ∷ []) ∷
     (19 ∷ 0 ∷ 0 ∷ []) ∷ (19 ∷ 0 ∷ 0 ∷ []) ∷ (19 ∷ 0 ∷ 0 ∷ []) ∷ (19 ∷ 0 ∷ 0 ∷ []) ∷ (19 ∷ 0 ∷ 0 ∷ []) ∷
     (19 ∷ 0 ∷ 0 ∷ []) ∷ (19 ∷ 0 ∷ 0 ∷ []) ∷ (19 ∷ 0 ∷ 0 ∷ []) ∷ (19 ∷ 0 ∷ 0 ∷ []) ∷ (19 ∷ 0 ∷ 0 ∷ []) ∷ []
-unfolding digits_within digits rows spelled declaration operation_line clock_line text_of ports_of first_refusal cell_refusal netlist_verdict
+unfolding digits_within digits rows spelled declaration operation_line clock_line text_of ports_of first_refusal
+    cell_refusal netlist_verdict
     inputs_given
     outputs_fit ports_fit write_verdict written_of
 calls-answer = refl

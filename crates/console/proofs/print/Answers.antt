@@ -32,7 +32,8 @@ returns-in_default-written-clause-wrote c =
     let q = c.in_default-written.is in
     let s = cells_are a.width a.table.now k.result k.ensures.0 _ _ _ _ m _ _ refl k.ensures.1 in
     let long : 65536 ≡ length a.text.now = omega arith in
-    let w = writer-refused a.width a.table.now k.result k.ensures.0 _ _ _ _ m _ _ _ s long r.result r.ensures.value r.ensures.text_after _ _ q in
+    let w = writer-refused a.width a.table.now k.result k.ensures.0 _ _ _ _ m _ _ _ s long r.result r.ensures.value
+    r.ensures.text_after _ _ q in
     rw w.0 (rw (q, w.1) at c.not_written.ensures.wrote)
 
 pub returns-clause-wrote : goal.returns-clause-wrote
@@ -43,7 +44,8 @@ returns-clause-wrote c =
     let r = c.write-written in
     let s = cells_are a.width a.table.now k.result k.ensures.0 _ _ _ _ m _ _ refl k.ensures.1 in
     let long : 65536 ≡ length a.text.now = omega arith in
-    (text-written a.width a.table.now k.result k.ensures.0 _ _ _ _ m _ _ _ s long r.result r.ensures.value r.ensures.text_after _ c.in-Length.is).0
+    (text-written a.width a.table.now k.result k.ensures.0 _ _ _ _ m _ _ _ s long r.result r.ensures.value
+    r.ensures.text_after _ c.in-Length.is).0
 
 pub returns-clause-upper_bound : goal.returns-clause-upper_bound
 returns-clause-upper_bound c =
@@ -53,4 +55,5 @@ returns-clause-upper_bound c =
     let r = c.write-written in
     let s = cells_are a.width a.table.now k.result k.ensures.0 _ _ _ _ m _ _ refl k.ensures.1 in
     let long : 65536 ≡ length a.text.now = omega arith in
-    (text-written a.width a.table.now k.result k.ensures.0 _ _ _ _ m _ _ _ s long r.result r.ensures.value r.ensures.text_after _ c.in-Length.is).1
+    (text-written a.width a.table.now k.result k.ensures.0 _ _ _ _ m _ _ _ s long r.result r.ensures.value
+    r.ensures.text_after _ c.in-Length.is).1

@@ -104,5 +104,6 @@ operate-requires c = (checked _ c.args.netlist.now c.requires.0.checked).wide.1
 
 pub returns-in_default : goal.returns-in_default
 returns-in_default c =
-    rw (lt-ltb 12 _ (operates c.args.width c.args.netlist.now _ _ c.args.n c.requires.0 c.requires.2 (λ l. omega (arith, c.kind-kind.ensures))))
+    rw (lt-ltb 12 _ (operates c.args.width c.args.netlist.now _ _ c.args.n c.requires.0 c.requires.2
+    (λ l. omega (arith, c.kind-kind.ensures))))
     (c.operate.ensures ∙ rw (c.kind-kind.ensures, c.lower-in_default.ensures, c.lower-in_default-2.ensures))

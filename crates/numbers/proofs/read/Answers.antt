@@ -23,11 +23,13 @@ returns-then-not-is_gap c =
 pub returns-then-count-gt-MOST_NUMBERS : goal.returns-then-count-gt-MOST_NUMBERS
 returns-then-count-gt-MOST_NUMBERS c =
     c.no_list-then-count-gt-MOST_NUMBERS.ensures ∙ no-numbers _ c.if-bytes-gt-MOST_BYTES.false
-    (gap-over c.loop-j.invariant c.loop-j-test.true (sym c.if-is_digit.ensures) (sym c.if-not-is_gap.ensures) _ _ c.store-count.ensures.by_index c.if-count-gt-MOST_NUMBERS.true)
+    (gap-over c.loop-j.invariant c.loop-j-test.true (sym c.if-is_digit.ensures)
+    (sym c.if-not-is_gap.ensures) _ _ c.store-count.ensures.by_index c.if-count-gt-MOST_NUMBERS.true)
 
 pub loop-j-preserved : goal.loop-j-preserved
 loop-j-preserved c =
-    gap-on c.loop-j.invariant c.loop-j-test.true (sym c.if-is_digit.ensures) (sym c.if-not-is_gap.ensures) _ _ c.store-count.ensures.by_index c.if-count-gt-MOST_NUMBERS.false
+    gap-on c.loop-j.invariant c.loop-j-test.true (sym c.if-is_digit.ensures)
+    (sym c.if-not-is_gap.ensures) _ _ c.store-count.ensures.by_index c.if-count-gt-MOST_NUMBERS.false
 
 pub returns-then-count-eq0 : goal.returns-then-count-eq0
 returns-then-count-eq0 c =

@@ -230,7 +230,8 @@ pub term-leaf-requires : goal.term-leaf-requires
 term-leaf-requires t c =
     let s = c.requires in (
       wide s.ready,
-      leaf-small s.ready _ s.there _ _ c.number-kind.ensures c.number.ensures (λ e. omega arith) (λ e. omega arith) (λ e. omega arith) (λ e. omega arith),
+      leaf-small s.ready _ s.there _ _ c.number-kind.ensures c.number.ensures (λ e. omega arith) (λ e. omega arith)
+          (λ e. omega arith) (λ e. omega arith),
       s.within,
     )
 
@@ -238,5 +239,6 @@ pub term-returns-in_default : goal.term-returns-in_default
 term-returns-in_default t c =
     let s = c.requires in
     leaves-as
-    (leaf-from s.ready _ s.there _ _ c.number-kind.ensures c.number.ensures (λ e. omega arith) (λ e. omega arith) (λ e. omega arith) (λ e. omega arith) _ _ _)
+    (leaf-from s.ready _ s.there _ _ c.number-kind.ensures c.number.ensures (λ e. omega arith) (λ e. omega arith) (λ e. omega arith)
+    (λ e. omega arith) _ _ _)
     c.leaf.ensures

@@ -58,7 +58,8 @@ returns-then-k-operand c =
     let t = c.args.table.now in
     let k = c.terms.k in
     let none = sym c.early-early.ensures ∙ c.if-early-ne0.false in
-    let above = one-above t k c.operands-uses.result c.loop-j.j c.loop-j.invariant.0 c.loop-j-test.true (omega (arith, c.operand.ensures)) in
+    let above = one-above t k c.operands-uses.result c.loop-j.j c.loop-j.invariant.0 c.loop-j-test.true
+    (omega (arith, c.operand.ensures)) in
     refuses c.terms.invariant (omega arith) 6
     (operand-refuses c.args.width t k none (rw (← uses-are t k c.number.ensures c.operands-uses.ensures) above)) (λ z. omega arith)
 

@@ -74,7 +74,8 @@ returns-in-10 c h =
 
 pub returns-in-11 : goal.returns-in-11
 returns-in-11 c h =
-    choice-wires _ _ _ _ _ c.requires.2 11 (sym c.in-11.is ∙ c.kind-kind.ensures) _ (word-range _ _ 11 _ c.ones-most.ensures (omega arith)) _ h
+    choice-wires _ _ _ _ _ c.requires.2 11 (sym c.in-11.is ∙ c.kind-kind.ensures) _
+    (word-range _ _ 11 _ c.ones-most.ensures (omega arith)) _ h
     (λ t u v. choice_passes _ _ _ t u v) c.choice.ensures
 
 pub returns-in-12 : goal.returns-in-12

@@ -58,13 +58,15 @@ ite-requires c =
 
 pub read-requires-in_default : goal.read-requires-in_default
 read-requires-in_default c =
-    let kind = is-rec c.args.table.now c.args.k c.number-kind.ensures c.operands.ensures c.if-operands-eq0.false (λ e. omega arith) (λ e. omega arith) (λ e. omega arith) in
+    let kind = is-rec c.args.table.now c.args.k c.number-kind.ensures c.operands.ensures c.if-operands-eq0.false (λ e. omega arith)
+    (λ e. omega arith) (λ e. omega arith) in
     let n = rec-operands kind in
     readable c.requires 3 (omega arith) (omega arith)
 
 pub rec-requires : goal.rec-requires
 rec-requires c =
-    let kind = is-rec c.args.table.now c.args.k c.number-kind.ensures c.operands.ensures c.if-operands-eq0.false (λ e. omega arith) (λ e. omega arith) (λ e. omega arith) in
+    let kind = is-rec c.args.table.now c.args.k c.number-kind.ensures c.operands.ensures c.if-operands-eq0.false (λ e. omega arith)
+    (λ e. omega arith) (λ e. omega arith) in
     let n = rec-operands kind in (
       operand_small c.requires 1 (omega arith) (omega arith) c.read-e.ensures,
       operand_small c.requires 2 (omega arith) (omega arith) c.read-f.ensures,
@@ -86,4 +88,5 @@ pub returns-in_default : goal.returns-in_default
 returns-in_default c =
     c.rec.ensures
     ∙ rec-found c.requires c.read-e.ensures c.read-f.ensures c.read-in_default.ensures
-    (is-rec c.args.table.now c.args.k c.number-kind.ensures c.operands.ensures c.if-operands-eq0.false (λ e. omega arith) (λ e. omega arith) (λ e. omega arith))
+    (is-rec c.args.table.now c.args.k c.number-kind.ensures c.operands.ensures c.if-operands-eq0.false (λ e. omega arith)
+    (λ e. omega arith) (λ e. omega arith))
