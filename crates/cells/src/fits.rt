@@ -1,5 +1,5 @@
 // The refusals 13 to 16 of one cell: its kind, and three tests of a number by its port, each asked
-// of x, y and z. Document 01: "Refusal numbers".
+// of x, y and z. docs/READING.md: "Refusal numbers".
 ghost use Rattle.std.specs.Prelude.{◌≡◌, true, ◌≤◌, ◌<◌};
 ghost use Rattle.meaning.specs.Choices.{and};
 ghost use Rattle.circuit.specs.Cells.{cell_count};

@@ -1,5 +1,5 @@
 // The kinds of cells: which drive bits, which words, and what their three numbers are for.
-// Document 01: "Cells".
+// docs/READING.md: "Cells".
 ghost use Rattle.std.specs.Prelude.{◌≡◌};
 ghost use Rattle.meaning.specs.Choices.{or};
 ghost use Rattle.circuit.specs.Cells.{bit_kind, word_kind, ports_of};

@@ -1,6 +1,6 @@
 // A netlist's numbers and its checks 1 and 12 to 16. Every slice has its verdict: accepted, or
 // refused with the number and place of the lowest cell that gives one.
-// Document 01: "Cells", "Refusal numbers".
+// docs/READING.md: "Cells", "Refusal numbers".
 //
 //     check           the width and the length, then cell by cell, lowest first
 //     fits::refusal   13 to 16 of one cell: its kind, then its numbers by the ports of the kind

@@ -1,4 +1,4 @@
--- Law: a term's block has as many output wires as document 01 counts. Assumes nothing.
+-- Law: a term's block has as many output wires as `outs` counts. Assumes nothing.
 use Prim.Native.Nat.{ℕ}
 use mathlib.Core.Path.{◌≡◌, refl, ◌∙◌}
 use mathlib.Core.List.{List}

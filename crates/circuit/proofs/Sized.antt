@@ -1,4 +1,4 @@
--- Law: a term's block has as many cells as document 01 counts. Assumes nothing.
+-- Law: a term's block has as many cells as `size` counts. Assumes nothing.
 use Prim.Native.Nat.{ℕ, ◌+◌, ◌*◌}
 use mathlib.Core.Path.{◌≡◌, refl, sym, ◌∙◌}
 use mathlib.Core.List.{List, ◌∷◌}

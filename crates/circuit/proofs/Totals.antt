@@ -1,4 +1,4 @@
--- Law: the whole circuit has as many output wires and cells as document 01 counts. Assumes nothing.
+-- Law: the whole circuit has as many output wires and cells as `outs` and `whole_size` count. Assumes nothing.
 use Prim.Native.Nat.{ℕ, ◌*◌}
 use mathlib.Core.Path.{◌≡◌, ◌∙◌, ap}
 use native.Mathlib.Omega.{arith}

@@ -1,5 +1,5 @@
 -- Blocks: the cells of a term, kind by kind. Definitions only.
--- Document 01: "Cells", the items on the kinds. Read after: `Pieces`, meaning's `Terms`. Assumes nothing.
+-- docs/READING.md: "Cells". Read after: `Pieces`, meaning's `Terms`. Assumes nothing.
 use Rattle.std.specs.Prelude.{ℕ, ◌+◌, List, [], ◌∷◌, ◌++◌, eqb, ltb, length}
 use Rattle.meaning.specs.Choices.{pick, at}
 use Rattle.meaning.specs.Words.{arity}

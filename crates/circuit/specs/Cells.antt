@@ -1,5 +1,5 @@
 -- Cells: a netlist's numbers, what each is for, and what a cell's wire shows. Definitions only.
--- Document 01: "Cells", first paragraph. Read after: meaning's `Words`. Assumes nothing.
+-- docs/READING.md: "Cells". Read after: meaning's `Words`. Assumes nothing.
 use Rattle.std.specs.Prelude.{ℕ, zero, suc, ◌+◌, ◌*◌, ◌/◌, Bool, List, [], ◌∷◌, eqb, ltb, leb, length}
 use Rattle.meaning.specs.Choices.{pick, and, or, not, num, bit, at}
 use Rattle.meaning.specs.Words.{Words, arity, operation}

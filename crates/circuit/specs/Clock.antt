@@ -1,5 +1,5 @@
 -- Clock: the wires of a netlist, cycle by cycle, one number a wire. Definitions only.
--- Document 01: "The simulator". Read after: `Cells`. Assumes nothing.
+-- docs/READING.md: "The simulator". Read after: `Cells`. Assumes nothing.
 use Rattle.std.specs.Prelude.{ℕ, zero, suc, Bool, List, [], ◌∷◌, ◌++◌, eqb, length}
 use Rattle.meaning.specs.Choices.{pick, at}
 use Rattle.meaning.specs.Words.{Words}

@@ -1,5 +1,5 @@
 -- Compiling: the whole circuit of a term, and what the compiler answers and writes. Definitions only.
--- Document 01: "Cells", the item on the whole circuit and what follows the items.
+-- docs/READING.md: "Cells".
 -- Read after: `Blocks`, meaning's `Answers`. Assumes nothing.
 use Rattle.std.specs.Prelude.{ℕ, zero, suc, ◌*◌, List, [], ◌∷◌, ◌++◌, leb, length, drop}
 use Rattle.meaning.specs.declared.Verdict.{Verdict}

@@ -1,5 +1,5 @@
 -- Netlists: the refusals 12 to 16 of a netlist, in their order and with their places. Definitions only.
--- Document 01: "Refusal numbers". Read after: `Cells`, meaning's `Checks`. Assumes nothing.
+-- docs/READING.md: "Refusal numbers". Read after: `Cells`, meaning's `Checks`. Assumes nothing.
 use Rattle.std.specs.Prelude.{ℕ, ◌%◌, ◌^◌, ◌*◌, Bool, true, List, eqb, ltb, leb, length}
 use Rattle.meaning.specs.declared.Verdict.{Verdict}
 use Rattle.meaning.specs.declared.Verdict.TheVariants as verdict

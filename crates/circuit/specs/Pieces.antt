@@ -1,5 +1,5 @@
 -- Pieces: what blocks are put together from. Definitions only.
--- Document 01: "Cells", from "Emission, in order" on. Read after: `Cells`. Assumes nothing.
+-- docs/READING.md: "Cells". Read after: `Cells`. Assumes nothing.
 use Rattle.std.specs.Prelude.{ℕ, zero, suc, List, [], ◌∷◌, ◌++◌}
 use Rattle.meaning.specs.Choices.{at}
 use Rattle.circuit.specs.Cells.{Cell, not_cell, and_cell, high_register, nonzero_cell, word_register, choice_cell}

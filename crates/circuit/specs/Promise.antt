@@ -1,5 +1,5 @@
 -- Promise: when a run begins, and what done and the outputs then show. Definitions only.
--- The mission's third demand, over what is seen from outside: load and input words, done and output words, cycle by cycle.
+-- docs/READING.md: "The handshake". It speaks of what is seen from outside: load and input words, done and output words, cycle by cycle.
 -- Read after: meaning's `Cycles`, `Clock`. Assumes nothing.
 use Rattle.std.specs.Prelude.{ℕ, zero, suc, ◌+◌, ◌≤◌, ◌<◌, ◌≡◌, Bool, true, false, map}
 use Rattle.meaning.specs.Choices.{and, not, bit, at}

@@ -1,5 +1,5 @@
 -- Simulated: what the simulator answers and writes. Definitions only.
--- Document 01: "The simulator", "Refusal numbers". Read after: `Netlists`, `Clock`. Assumes nothing.
+-- docs/READING.md: "The simulator", "Refusal numbers". Read after: `Netlists`, `Clock`. Assumes nothing.
 use Rattle.std.specs.Prelude.{ℕ, zero, suc, ◌^◌, Bool, true, List, eqb, ltb, leb, length}
 use Rattle.meaning.specs.declared.Verdict.{Verdict}
 use Rattle.meaning.specs.declared.Verdict.TheVariants as verdict

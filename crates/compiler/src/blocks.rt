@@ -1,4 +1,4 @@
-// The block of a term, kind by kind. Document 01: "Cells", the items on the kinds.
+// The block of a term, kind by kind. docs/READING.md: "Cells".
 // Emission recurses on operands, the term number falling at each call; each use of a term is a
 // block of its own, and each cell is written once. Where a cell reads a later wire, it is written
 // after the block that drives it. An array lent by the caller holds the block's input wires before

@@ -1,4 +1,4 @@
-// The compiler: from a table to a netlist of cells in lent memory. Document 01: "Cells".
+// The compiler: from a table to a netlist of cells in lent memory. docs/READING.md: "Cells".
 // It refuses 1 to 9 as `terms::check` does, and 10 where the memory is under four times the
 // cells; a refused call writes nothing.
 //

@@ -1,5 +1,5 @@
 -- Messages: the two lines that the program prints in the place of a text. Definitions only.
--- Document 01: "The Verilog text", first paragraph. Read after: spelling's `Pieces`. Assumes nothing.
+-- docs/READING.md: "The Verilog text". Read after: spelling's `Pieces`. Assumes nothing.
 use Rattle.std.specs.Prelude.{ℕ, List}
 use Rattle.spelling.specs.Pieces.{bytes, blanks, filled}
 

@@ -1,5 +1,5 @@
 -- Response: what the program prints for the bytes that it reads. Definitions only.
--- Document 01: "The Verilog text", first paragraph. Read after: `Messages`, numbers' `Lists`, verilog's `Writing`, circuit's
+-- docs/READING.md: "The Verilog text". Read after: `Messages`, numbers' `Lists`, verilog's `Writing`, circuit's
 -- `Compiling`.
 -- Assumes nothing.
 use Rattle.std.specs.Prelude.{ℕ, List, drop}

@@ -1,5 +1,5 @@
 // What the program prints: for a list of numbers, a width and a table, the Verilog text of the
-// table's circuit; for anything else, one line. Document 01: "The Verilog text".
+// table's circuit; for anything else, one line. docs/READING.md: "The Verilog text".
 #![tactic(auto)]
 
 mod messages;

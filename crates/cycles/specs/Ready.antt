@@ -1,5 +1,5 @@
 -- Ready: what holds where wires are computed without a check. Definitions only.
--- Document 01: "The simulator". Read after: circuit's `Netlists`, `Simulated`. Assumes nothing.
+-- docs/READING.md: "The simulator". Read after: circuit's `Netlists`, `Simulated`. Assumes nothing.
 use Rattle.std.specs.Prelude.{ℕ, ◌≤◌, ◌<◌, ◌≡◌, Bool, true, false, List, length, take}
 use Rattle.meaning.specs.declared.Verdict.TheVariants as verdict
 use Rattle.meaning.specs.Choices.{pick, at}

@@ -1,7 +1,7 @@
 // The wires of a cycle of a checked netlist, lowest first. A cell reads lower wires of the same
 // cycle; a register shows its starting value in a fresh circuit, and afterwards its wire of the
 // cycle before. Nothing is judged here. One loop serves power-up and step, so that the compiler
-// folds all of it into one jump on the kind a cell. Document 01: "The simulator".
+// folds all of it into one jump on the kind a cell. docs/READING.md: "The simulator".
 #![tactic(auto)]
 
 ghost use Rattle.std.specs.Prelude.{◌≡◌, false, [], ◌<◌, length, take};

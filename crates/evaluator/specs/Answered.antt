@@ -1,5 +1,5 @@
 -- Answered: what the evaluator says of an accepted table: refusal 11, or the run of the main term. Definitions only.
--- Document 01: "Cycles", "Refusal numbers". Assumes nothing.
+-- docs/READING.md: "Cycles", "Refusal numbers". Assumes nothing.
 use Rattle.std.specs.Prelude.{ℕ, List}
 use Rattle.meaning.specs.declared.Evaluated.{Evaluated}
 use Rattle.meaning.specs.Choices.{pick}

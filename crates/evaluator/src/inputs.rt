@@ -1,5 +1,5 @@
 // The words that a run is given: whether they fit the main term, and how they go into an array of
-// 16. Document 01: refusal 11.
+// 16. docs/READING.md: "Refusal numbers".
 ghost use Rattle.std.specs.Prelude.{◌≡◌, ◌≤◌, length};
 ghost use Rattle.meaning.specs.Choices.{«padded»};
 ghost use Rattle.meaning.specs.Answers.{words_fit};

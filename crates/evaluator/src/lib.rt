@@ -1,6 +1,6 @@
 // The evaluator of term tables: what the main term gives on words, and in how many cycles, within a
 // budget. Refuses 1 to 9 as the table's checks do, then 11. A refused or unfinished call gives no
-// words. Document 01: "Term tables", "Cycles", "Refusal numbers".
+// words. docs/READING.md: "Term tables", "Cycles", "Refusal numbers".
 //
 //     evaluate  the checks, the words, then the run of the main term
 //     inputs    check 11, and the words in an array of 16

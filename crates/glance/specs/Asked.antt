@@ -1,5 +1,5 @@
 -- Asked: what one look asks of a cell's numbers, by the row of its kind. Definitions only.
--- Document 01: "Cells". Read after: circuit's `Cells`, `Netlists`. Assumes nothing.
+-- docs/READING.md: "Cells". Read after: circuit's `Cells`, `Netlists`. Assumes nothing.
 use Rattle.std.specs.Prelude.{ℕ, Bool, true, false, List, eqb, ltb, leb}
 use Rattle.meaning.specs.Choices.{pick, and}
 use Rattle.circuit.specs.Cells.{cell_number, kind_at}

@@ -1,5 +1,5 @@
 -- Sound: what checks 13 to 16, 11 and 18 ask of one cell and its wire, where none of them refuses. Definitions only.
--- Document 01: "Refusal numbers". Read after: circuit's `Netlists`, `Simulated`. Assumes nothing.
+-- docs/READING.md: "Refusal numbers". Read after: circuit's `Netlists`, `Simulated`. Assumes nothing.
 use Rattle.std.specs.Prelude.{ℕ, ◌<◌, ◌^◌, ◌≡◌, true, List, leb, ltb}
 use Rattle.meaning.specs.Choices.{pick, at}
 use Rattle.circuit.specs.Cells.{cell_number, kind_at, bit_kind}

@@ -1,6 +1,6 @@
 // One look at each cell of a step: yes only where all that the call is lent passes every check. A
 // step that gets a yes needs no other judgement; of any other, `simulator::verdicts` says whether
-// it is refused, and how. Document 01: "The simulator", "Refusal numbers".
+// it is refused, and how. docs/READING.md: "The simulator", "Refusal numbers".
 #![tactic(auto)]
 
 mod rows;

@@ -1,5 +1,5 @@
 // One cell and its wire, by the row of its kind: what its wire shows, at most `top`, and then its
-// numbers. Document 01: "Cells", "Refusal numbers".
+// numbers. docs/READING.md: "Cells", "Refusal numbers".
 ghost use Rattle.std.specs.Prelude.{◌≡◌, true, ◌≤◌, ◌<◌, leb};
 ghost use Rattle.meaning.specs.Choices.{and};
 ghost use Rattle.circuit.specs.Cells.{cell_count};

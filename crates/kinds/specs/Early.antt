@@ -1,5 +1,5 @@
 -- Early: the refusals 3 to 5, which a term's own numbers decide. Definitions only.
--- Document 01: "Refusal numbers". Assumes nothing.
+-- docs/READING.md: "Refusal numbers". Assumes nothing.
 use Rattle.std.specs.Prelude.{ℕ, List, [], ◌∷◌}
 use Rattle.meaning.specs.Choices.{pick}
 use Rattle.meaning.specs.Checks.{known_kind, unused_zero, values_fit}

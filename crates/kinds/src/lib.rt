@@ -1,5 +1,5 @@
 // What a kind uses, and the refusals 3 to 5, which a term's own numbers decide.
-// Document 01: "Term tables", "Refusal numbers".
+// docs/READING.md: "Term tables", "Refusal numbers".
 #![tactic(auto)]
 
 ghost use Rattle.std.specs.Prelude.{◌≡◌, ◌≤◌, eqb, leb};

@@ -1,5 +1,5 @@
 -- Results: a run that starts at one cycle and has until another, and what it leaves. Definitions only.
--- Document 01: "Cycles". Assumes nothing.
+-- docs/READING.md: "Cycles". Assumes nothing.
 use Rattle.std.specs.Prelude.{ℕ, ◌-◌, ◌≡◌, ◌++◌, take}
 use Rattle.meaning.specs.declared.End.{End}
 use Rattle.meaning.specs.declared.End.TheVariants.{Unfinished, Ended}

@@ -1,5 +1,5 @@
 // What a term without operands does to the words, and what Par makes of its two sides.
-// Document 01: "Term tables", "Cycles".
+// docs/READING.md: "Term tables", "Cycles".
 #![tactic(auto)]
 
 ghost use Rattle.std.specs.Prelude.{◌≡◌, ◌<◌, ◌≤◌, max, length};

@@ -1,4 +1,4 @@
--- Law: checks 3 to 8 pass exactly where a row of document 01's term table holds, and the verdict accepts exactly where
+-- Law: checks 3 to 8 pass exactly where a row of the table of kinds holds, and the verdict accepts exactly where
 -- every row, the width, the length and the size do. Assumes nothing.
 use Prim.Native.Nat.{ℕ, zero, suc, ◌+◌, ◌*◌, ◌%◌, ◌^◌, ◌≤◌, ◌<◌}
 use mathlib.Core.Path.{◌≡◌}
@@ -18,7 +18,7 @@ use Rattle.meaning.specs.Checks.{counts_fit, par_small, refusal_at, size_verdict
 use Rattle.meaning.proofs.Tests.{clash, split, both, either}
 use Rattle.meaning.proofs.Verdicts.{not-refused, went_on, none-refused}
 
--- Term k passes checks 3 to 8: a row of document 01's table each.
+-- Term k passes checks 3 to 8: a row of the table of kinds each.
 pub data Fits (w : ℕ) (t : List ℕ) (k : ℕ) : Type 0 where
   seq-fits : kind_of t k ≡ 1 → number_of t k 3 ≡ 0 → number_of t k 1 < k → number_of t k 2 < k →
       outs (operand_tree t k 1) ≡ ins (operand_tree t k 2) → Fits w t k

@@ -1,4 +1,4 @@
--- Cases: document 01's small runs, and each refusal of a table once, computed from the definitions. Assumes nothing.
+-- Cases: the small runs of docs/READING.md, and each refusal of a table once, computed from the definitions. Assumes nothing.
 use Prim.Native.Nat.{ℕ, zero, suc}
 use mathlib.Core.Path.{◌≡◌, refl}
 use mathlib.Core.Bool.{Bool, true, false}

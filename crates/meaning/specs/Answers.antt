@@ -1,5 +1,5 @@
 -- Answers: what the checks and the evaluator answer, and each answer's numbers. Definitions only.
--- Document 01: "Cycles", "Refusal numbers". Read after: `Checks`, `Cycles`. Assumes nothing.
+-- docs/READING.md: "Cycles", "Refusal numbers". Read after: `Checks`, `Cycles`. Assumes nothing.
 use Rattle.std.specs.Prelude.{ℕ, ◌^◌, Bool, List, [], ◌∷◌, ◌++◌, eqb, length}
 use Rattle.meaning.specs.declared.Verdict.{Verdict}
 use Rattle.meaning.specs.declared.Verdict.TheVariants as verdict

@@ -1,5 +1,5 @@
 -- Checks: the refusals 1 to 9 of a width and a table, in their order and with their places. Definitions only.
--- Document 01: "Refusal numbers". Read after: `Counts`. Assumes nothing.
+-- docs/READING.md: "Refusal numbers". Read after: `Counts`. Assumes nothing.
 use Rattle.std.specs.Prelude.{ℕ, zero, suc, ◌+◌, ◌%◌, ◌^◌, Bool, true, List, eqb, ltb, leb, length}
 use Rattle.meaning.specs.declared.Verdict.{Verdict}
 use Rattle.meaning.specs.declared.Verdict.TheVariants.{Accepted, Refused}

@@ -1,5 +1,5 @@
 -- Counts: how many words a term takes and gives, and how many cells its circuit has. Definitions only.
--- Document 01: "Term tables", column "i to o", and "Cells", the sums at the end of each item. Read after: `Terms`. Assumes nothing.
+-- docs/READING.md: "Term tables", "Cells". Read after: `Terms`. Assumes nothing.
 use Rattle.std.specs.Prelude.{ℕ, ◌+◌, ◌*◌, min, ltb}
 use Rattle.meaning.specs.Choices.{pick}
 use Rattle.meaning.specs.Words.{arity}

@@ -1,5 +1,5 @@
 -- Cycles: what a term gives on words and how long it takes, cut off at a budget. Definitions only.
--- Document 01: "Cycles". Read after: `Terms`. Assumes nothing.
+-- docs/READING.md: "Cycles". Read after: `Terms`. Assumes nothing.
 use Rattle.std.specs.Prelude.{ℕ, zero, suc, ◌+◌, ◌-◌, max, Bool, [], ◌∷◌, ◌++◌, eqb, ltb}
 use Rattle.meaning.specs.Choices.{pick, bit, at}
 use Rattle.meaning.specs.Words.{Words, operation}

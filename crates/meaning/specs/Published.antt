@@ -1,5 +1,5 @@
--- Published: the four combinators as document 001 gives them, with document 01's cycles, and no budget. Definitions only.
--- Document 001: section 2. Document 01: "Term tables" and "Cycles". Read after: `Cycles`. Assumes nothing.
+-- Published: the four combinators, with their cycles, and no budget. Definitions only.
+-- docs/READING.md: "Term tables", "Cycles". Read after: `Cycles`. Assumes nothing.
 use Rattle.std.specs.Prelude.{ℕ, ◌+◌, max, ◌≡◌, true, false, [], ◌∷◌, ◌++◌}
 use Rattle.meaning.specs.Words.{Words}
 use Rattle.meaning.specs.Terms.{Term, leaf, seq, par, ite, rec}

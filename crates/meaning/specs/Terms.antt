@@ -1,5 +1,5 @@
 -- Terms: a table's numbers, and each term as a tree of the terms that it names. Definitions only.
--- Document 01: "Term tables". Read after: `Words`. Assumes nothing.
+-- docs/READING.md: "Term tables". Read after: `Words`. Assumes nothing.
 use Rattle.std.specs.Prelude.{ℕ, zero, suc, ◌+◌, ◌*◌, ◌-◌, ◌/◌, List, eqb, length}
 use Rattle.meaning.specs.Choices.{pick, at}
 

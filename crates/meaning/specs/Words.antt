@@ -1,5 +1,5 @@
 -- Words: what the kinds 13 to 22 compute at width w. Definitions only.
--- Document 01: "Term tables", the last three rows. Read after: `Choices`. Assumes nothing.
+-- docs/READING.md: "Term tables". Read after: `Choices`. Assumes nothing.
 -- A word is below 2 ^ w. Where a definition reduces an operand first, it says what is computed of other numbers too,
 -- so that no law about it needs to know that its operands are words.
 use Rattle.std.specs.Prelude.{ℕ, ◌+◌, ◌*◌, ◌-◌, ◌/◌, ◌%◌, ◌^◌, List, eqb, ltb}

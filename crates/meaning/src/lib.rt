@@ -2,7 +2,7 @@
 // Nothing is computed here: the definitions are in `specs/`, the laws about them in `proofs/`.
 #![tactic(auto)]
 
-// A judgement: accepted, or refused with document 01's number and the place that it names.
+// A judgement: accepted, or refused with a number and the place that it names.
 #[derive(Drop)]
 pub enum Verdict {
     Accepted,

@@ -1,5 +1,5 @@
 -- Lists: which bytes are a list of decimal numbers, and which numbers they are. Definitions only.
--- Document 01: "The Verilog text", first paragraph. Read after: meaning's `Choices`. Assumes nothing.
+-- docs/READING.md: "The Verilog text". Read after: meaning's `Choices`. Assumes nothing.
 use Rattle.std.specs.Prelude.{ℕ, ◌+◌, ◌*◌, ◌-◌, ◌^◌, ◌≤◌, ◌≡◌, Bool, true, false, List, [], ◌∷◌, ◌++◌, eqb, ltb, leb, length}
 use Prim.Native.Char.{code}
 use Rattle.meaning.specs.Choices.{pick, and, or, padded}

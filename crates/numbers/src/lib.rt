@@ -1,5 +1,5 @@
 // Lists of decimal numbers read from text. What is no such list is refused, and then there are no
-// numbers. Document 01: "The Verilog text", first paragraph.
+// numbers. docs/READING.md: "The Verilog text".
 #![tactic(auto)]
 
 ghost use Rattle.std.specs.Prelude.{◌≡◌, List, ℕ, ◌+◌, ◌≤◌, ◌<◌};

@@ -1,5 +1,5 @@
 -- Pairs: pairs of steps, from one buffer into another and back, under one load and the same words. Definitions only.
--- Document 01: "The simulator". Read after: circuit's `Clock`, `Simulated`. Assumes nothing.
+-- docs/READING.md: "The simulator". Read after: circuit's `Clock`, `Simulated`. Assumes nothing.
 use Rattle.std.specs.Prelude.{ℕ, zero, suc, Bool, List, length}
 use Rattle.meaning.specs.Words.{Words}
 use Rattle.meaning.specs.Answers.{on_verdict}

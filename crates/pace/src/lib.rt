@@ -1,5 +1,6 @@
 // For the benchmark alone: a netlist that is judged once and stepped many times, as a function on
-// numbers in the manner of the plugin's, which `pace_c` hands to C. Document 01: "The simulator".
+// numbers in the manner of the plugin's, which `pace_c` hands to C.
+// docs/READING.md: "The simulator".
 #![tactic(auto)]
 
 ghost use Rattle.std.specs.Prelude.{◌≡◌, length};

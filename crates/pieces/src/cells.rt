@@ -1,6 +1,6 @@
 // Single cells and fixed groups of them, written into a lent netlist.
 // A cell is written by `put` alone; what stands elsewhere in the netlist stays.
-// Document 01: "Cells", from "Emission, in order" on.
+// docs/READING.md: "Cells".
 ghost use Rattle.std.specs.Prelude.{◌≡◌, [], ◌∷◌, ◌+◌};
 ghost use Rattle.circuit.specs.Cells.{cell};
 ghost use Rattle.circuit.specs.Pieces.{«rise»};

@@ -1,5 +1,5 @@
 // The block of a term without operands, kind 9 and above.
-// Document 01: "Cells", the item on these kinds.
+// docs/READING.md: "Cells".
 ghost use Rattle.std.specs.Prelude.{◌≡◌, [], ◌∷◌, ◌+◌, ◌<◌};
 ghost use Rattle.meaning.specs.Choices.{padded};
 ghost use Rattle.circuit.specs.Pieces.{wires_from};

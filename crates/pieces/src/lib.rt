@@ -1,4 +1,4 @@
-// What blocks are put together from, written into a lent netlist. Document 01: "Cells".
+// What blocks are put together from, written into a lent netlist. docs/READING.md: "Cells".
 // Every function asks for room, and what stands elsewhere in the netlist stays.
 //
 //     cells    single cells, and groups of them

@@ -1,7 +1,7 @@
 // Rows: one wire or cell for each of n words, at most 16.
 // Words stand in a lent array of 16 wires, of which those past n are not read; a row that is
 // written there has 0 past n.
-// Document 01: "Cells", from "Emission, in order" on.
+// docs/READING.md: "Cells".
 ghost use Rattle.std.specs.Prelude.{◌≡◌, ◌+◌, ◌*◌, ◌≤◌, length, take};
 ghost use Rattle.meaning.specs.Choices.{padded};
 ghost use Rattle.circuit.specs.Pieces.{wires_from, keeps, kept, choices, «registers»};

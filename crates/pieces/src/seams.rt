@@ -1,5 +1,5 @@
 // Seams: what stands in front of and behind a test with its branches, in an Ite and in a Rec.
-// Document 01: "Cells", the items on these two kinds.
+// docs/READING.md: "Cells".
 ghost use Rattle.std.specs.Prelude.{◌≡◌, ◌∷◌, ◌+◌, ◌*◌, ◌≤◌, length, take};
 ghost use Rattle.meaning.specs.Choices.{padded};
 ghost use Rattle.circuit.specs.Cells.{low_register};

@@ -1,5 +1,5 @@
 -- Law: each contract here leaves no choice: two exits of one call that both meet it have the same numbers in every array that is written.
--- Stated of the contracts themselves, as the check reads them (`Post`). Document 01: "What a contract here has to nail". Assumes nothing.
+-- Stated of the contracts themselves, as the check reads them (`Post`). docs/READING.md: "What a contract has to nail". Assumes nothing.
 use mathlib.Core.Path.{◌≡◌, sym, ◌∙◌}
 use mathlib.Core.List.{List}
 use Prim.Native.Nat.{ℕ}

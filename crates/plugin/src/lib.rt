@@ -1,6 +1,6 @@
 // The plugin's interface: each part as a function on numbers, which `plugin_c` hands to C. Every
 // call is taken as it comes: a function writes its answer, refusals included, and what its part
-// writes. Document 01: "Refusal numbers" and the sections of the parts.
+// writes. docs/READING.md: "Refusal numbers".
 #![tactic(auto)]
 
 mod numbers;

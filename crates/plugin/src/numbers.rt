@@ -1,4 +1,4 @@
-// Each answer as the numbers that document 01 gives it: an enum's case by case, then the words.
+// Each answer as the numbers that C sees: an enum's case by case, then the words.
 // `meaning`'s `specs/Answers.antt` and `circuit`'s `specs/Compiling.antt` say which is which.
 ghost use Rattle.std.specs.Prelude.{◌≡◌, ◌++◌, ◌+◌, ◌≤◌, length};
 ghost use Rattle.std.proofs.lemmas.List.Edits.{sets};

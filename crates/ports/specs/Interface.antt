@@ -1,5 +1,5 @@
 -- Interface: which ports fit a netlist: refusal 19. Definitions only.
--- Document 01: "Refusal numbers". Read after: circuit's `Netlists`, `Simulated`. Assumes nothing.
+-- docs/READING.md: "Refusal numbers". Read after: circuit's `Netlists`, `Simulated`. Assumes nothing.
 use Rattle.std.specs.Prelude.{ℕ, zero, suc, Bool, true, List, eqb, ltb}
 use Rattle.meaning.specs.Choices.{pick, and, at}
 use Rattle.meaning.specs.Checks.{few_words}

@@ -1,4 +1,4 @@
--- Cases: document 01's small runs on cells, computed from the definitions. Assumes nothing.
+-- Cases: the small runs of docs/READING.md on cells, computed from the definitions. Assumes nothing.
 use Prim.Native.Nat.{ℕ, zero, suc}
 use mathlib.Core.Path.{◌≡◌, refl}
 use mathlib.Core.List.{List, [], ◌∷◌, ◌++◌, map}
@@ -17,7 +17,7 @@ complement-cells : netlist_of (main_of complement_table) ≡
 unfolding below node_of
 complement-cells = refl
 
--- The cells of runs 1, 2 and 4 are as many as document 01 says.
+-- The cells of runs 1, 2 and 4 are as many as docs/READING.md says.
 lengths : map (λ (t : List ℕ). length (whole_cells (main_of t))) (complement_table ∷ countdown_table ∷ multiplier_table ∷ []) ≡
     11 ∷ 65 ∷ 108 ∷ []
 unfolding below node_of

@@ -60,7 +60,7 @@ module _ (w : ℕ) (t : List ℕ) (ok : verdict_of w t ≡ verdict.Accepted) whe
   count-is : cell_count net ≡ whole_size main
   count-is = count-numbers (whole_cells main) ∙ whole-size well_typed
 
-  -- The list has four numbers a cell, as many cells as document 01 counts.
+  -- The list has four numbers a cell, as many cells as its size says.
   pub netlist-size : length net ≡ whole_size main * stride
   netlist-size = netlist-length well_typed
 

@@ -1,4 +1,4 @@
--- Traps: small circuits of the wirings that document 01 warns of, and of one that serves a first load only, each with a run in which it
+-- Traps: small circuits of wrong wirings, and of one that serves a first load only, each with a run in which it
 -- breaks the promise. Assumes nothing.
 use Prim.Native.Nat.{ℕ, zero, suc}
 use mathlib.Core.Path.{◌≡◌, refl, ap}

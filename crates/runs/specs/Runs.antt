@@ -1,5 +1,5 @@
 -- Runs: what the term evaluator is asked, and the run that it makes. It counts cycles from the start of the whole run: a term
--- starts at one cycle and has until another. Definitions only. Document 01: "Cycles". Assumes nothing.
+-- starts at one cycle and has until another. Definitions only. docs/READING.md: "Cycles". Assumes nothing.
 use Rattle.std.specs.Prelude.{ℕ, ◌≤◌, ◌<◌, ◌≡◌, List}
 use Rattle.meaning.specs.declared.Verdict.TheVariants.{Accepted}
 use Rattle.meaning.specs.Words.{Words}

@@ -1,7 +1,7 @@
 // The run of a term of an accepted table, on an array that holds the words: the term's inputs
 // before it, its outputs after it. `term` goes by the kind, and each combinator calls it back on
 // its operands, whose numbers are lower. Cycles are counted from the start of the whole run up to
-// the budget, the limit, so no sum of them can wrap. Document 01: "Cycles".
+// the budget, the limit, so no sum of them can wrap. docs/READING.md: "Cycles".
 //
 //     term     by the kind: the four below, or `leaves::leaf`
 //     seq, par, ite, rounds   the combinators; `rounds` is the round evaluator of Rec

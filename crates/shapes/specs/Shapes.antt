@@ -1,5 +1,5 @@
 -- Shapes: the refusals 7 and 8 and what a term gives, from what is known of its operands. Definitions only.
--- Document 01: "Term tables", column "i to o", and "Cells", the sums. Assumes nothing.
+-- docs/READING.md: "Term tables", "Cells". Assumes nothing.
 use Rattle.std.specs.Prelude.{ℕ, ◌+◌, ◌*◌, ◌≤◌, Bool, eqb, leb}
 use Rattle.meaning.specs.Choices.{pick, and}
 use Rattle.meaning.specs.Terms.{Term, leaf}

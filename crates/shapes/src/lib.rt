@@ -1,5 +1,5 @@
 // The refusals 7 and 8 of a term, and what it gives, from what is known of its operands.
-// Document 01: "Term tables", "Cells".
+// docs/READING.md: "Term tables", "Cells".
 // Sizes are kept up to 4,097, so that a sum of three of them is small whatever the table.
 #![tactic(auto)]
 

@@ -1,5 +1,5 @@
 // A simulator of netlists, a cycle a call. A call judges all that it is lent before it writes the
-// first wire: a refused call writes nothing. Document 01: "The simulator", "Refusal numbers".
+// first wire: a refused call writes nothing. docs/READING.md: "The simulator", "Refusal numbers".
 //
 //     power_up   the wires of cycle 0
 //     step       the wires of a cycle from those of the cycle before

@@ -1,5 +1,5 @@
-// What the simulator refuses, in document 01's order: the netlist's refusals, then 17, 18 (not at
-// power-up) and 11. Document 01: "Refusal numbers".
+// What the simulator refuses, in order: the netlist's refusals, then 17, 18 (not at
+// power-up) and 11. docs/READING.md: "Refusal numbers".
 ghost use Rattle.std.specs.Prelude.{◌≡◌, true, ◌≤◌, ◌<◌, eqb, ltb, length};
 ghost use Rattle.meaning.specs.Choices.{pick};
 ghost use Rattle.meaning.specs.Checks.{first_refusal};

@@ -1,5 +1,5 @@
 -- Pieces: text as a list of bytes, numbers in decimal, templates with blanks, and buffers that pieces are written to. Definitions only.
--- Document 01: "The Verilog text". Read after: meaning's `Choices`. Assumes nothing.
+-- docs/READING.md: "The Verilog text". Read after: meaning's `Choices`. Assumes nothing.
 use Rattle.std.specs.Prelude.{ℕ, zero, suc, ◌+◌, ◌-◌, ◌/◌, ◌%◌, ◌≡◌, List, [], ◌∷◌, ◌++◌, eqb, ltb, length}
 use Prim.Native.Char.{code}
 use Prim.Native.String.{String, [] as none, ◌∷◌ as ◌and◌}

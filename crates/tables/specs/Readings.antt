@@ -1,5 +1,5 @@
 -- Readings: what the arrays know of the lower terms, and what term k of a table gives. Definitions only.
--- Document 01: "Term tables", "Refusal numbers". Assumes nothing.
+-- docs/READING.md: "Term tables", "Refusal numbers". Assumes nothing.
 use Rattle.std.specs.Prelude.{ℕ, ◌+◌, ◌*◌, ◌≤◌, ◌<◌, ◌≡◌, true, List, length}
 use Rattle.meaning.specs.Choices.{pick, at}
 use Rattle.meaning.specs.Terms.{number_of, kind_of, tree}

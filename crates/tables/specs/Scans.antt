@@ -1,5 +1,5 @@
 -- Scans: what the scan of a table answers. Definitions only.
--- Document 01: "Refusal numbers". Read after: `Readings`. Assumes nothing.
+-- docs/READING.md: "Refusal numbers". Read after: `Readings`. Assumes nothing.
 use Rattle.std.specs.Prelude.{ℕ, ◌≤◌, ◌<◌, ◌≡◌, List}
 use Rattle.meaning.specs.declared.Verdict.TheVariants as verdict
 use Rattle.meaning.specs.declared.Facts.{Facts}

@@ -1,5 +1,5 @@
 // A table's numbers, and its refusals 3 to 8 term by term, with what they find of each term.
-// Document 01: "Term tables", "Refusal numbers".
+// docs/READING.md: "Term tables", "Refusal numbers".
 //
 //     scanned   lowest term first: `early`, the operands, `readings::shape_of`
 //     early     3 to 5, by the term's own numbers (`kinds`)

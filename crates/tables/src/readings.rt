@@ -1,5 +1,5 @@
 // What the arrays know of a term's operands, and what the term gives: the refusals 7 and 8.
-// Document 01: "Term tables", "Refusal numbers".
+// docs/READING.md: "Term tables", "Refusal numbers".
 ghost use Rattle.std.specs.Prelude.{◌≡◌, ◌*◌, ◌+◌, ◌<◌, ◌≤◌, length};
 ghost use Rattle.meaning.specs.Terms.{number_of};
 ghost use Rattle.tables.specs.Readings.{read_at, shape_of, Ready};

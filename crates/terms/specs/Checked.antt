@@ -1,5 +1,5 @@
 -- Checked: what the frame of a table answers, and what the recursive size asks. Definitions only.
--- Document 01: "Refusal numbers". Assumes nothing.
+-- docs/READING.md: "Refusal numbers". Assumes nothing.
 use Rattle.std.specs.Prelude.{ℕ, ◌+◌, ◌*◌, ◌≤◌, ◌<◌, ◌≡◌, List, [], eqb}
 use Rattle.meaning.specs.declared.Verdict.{Verdict}
 use Rattle.meaning.specs.declared.Verdict.TheVariants as verdict

@@ -1,6 +1,6 @@
 // The checks 1 to 9 of a table, with what they find of each term; and a size by recursion.
 // A refused table has its number and place, and zeros for every term.
-// Document 01: "Term tables", "Refusal numbers".
+// docs/READING.md: "Term tables", "Refusal numbers".
 //
 //     check    `framed`, then `tables::scanned`, then the size of the whole circuit
 //     framed   1 and 2: the width and the length

@@ -1,4 +1,4 @@
--- Cases: document 01's example text, every kind of line and the writer's refusals, computed from the definitions. Assumes nothing.
+-- Cases: the text of the complement, every kind of line and the writer's refusals, computed from the definitions. Assumes nothing.
 use Prim.Native.Nat.{ℕ}
 use Prim.Native.String.{String}
 use mathlib.Core.Path.{◌≡◌, refl}

@@ -1,5 +1,5 @@
 -- Lines: each line of the Verilog text as a template. Definitions only.
--- Document 01: "The Verilog text". Read after: spelling's `Pieces`. Assumes nothing.
+-- docs/READING.md: "The Verilog text". Read after: spelling's `Pieces`. Assumes nothing.
 -- In a template N is the line's own number, X, Y and Z are a cell's numbers, W is the width and T is W - 1.
 use Rattle.std.specs.Prelude.{ℕ, Bool, true, false, eqb}
 use Prim.Native.String.{String}

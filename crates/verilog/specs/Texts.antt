@@ -1,5 +1,5 @@
 -- Texts: the Verilog text of a netlist with its ports. Definitions only.
--- Document 01: "The Verilog text". Read after: `Lines`, circuit's `Cells`. Assumes nothing.
+-- docs/READING.md: "The Verilog text". Read after: `Lines`, circuit's `Cells`. Assumes nothing.
 use Rattle.std.specs.Prelude.{ℕ, ◌-◌, Bool, true, false, List, ◌++◌}
 use Prim.Native.String.{String}
 use Rattle.meaning.specs.Choices.{at}

@@ -1,5 +1,5 @@
 -- Writing: refusal 20, and what the writer answers and writes. Definitions only.
--- Document 01: "Refusal numbers", "The Verilog text". Read after: `Texts`, ports' `Interface`, circuit's `Netlists`. Assumes nothing.
+-- docs/READING.md: "Refusal numbers", "The Verilog text". Read after: `Texts`, ports' `Interface`, circuit's `Netlists`. Assumes nothing.
 use Rattle.std.specs.Prelude.{ℕ, List, [], ◌∷◌, ◌++◌, leb, length, drop}
 use Rattle.meaning.specs.declared.Verdict.{Verdict}
 use Rattle.meaning.specs.declared.Verdict.TheVariants as verdict

@@ -1,5 +1,5 @@
 // A netlist as Verilog text in lent memory.
-// Document 01: "The Verilog text".
+// docs/READING.md: "The Verilog text".
 #![tactic(auto)]
 
 mod lines;

@@ -1,5 +1,5 @@
-// The declarations of cells as a table of templates, a row for each kind. Document 01: "The Verilog
-// text".
+// The declarations of cells as a table of templates, a row for each kind. docs/READING.md: "The
+// Verilog text".
 ghost use Rattle.std.specs.Prelude.{◌≡◌, ◌++◌, ◌-◌, ◌≤◌, length as length_of, replicate};
 ghost use Rattle.spelling.specs.Pieces.{bytes};
 ghost use Rattle.verilog.specs.Lines.{declaration};

@@ -1,7 +1,7 @@
 // Words of 1 to 32 bits, held in u32: the operations 13 to 22, and which numbers are words.
 // Every function takes every number: with an operand past the width it computes as defined.
 // Sums and differences wrap at 32 bits and are then reduced to the width.
-// Document 01: "Term tables".
+// docs/READING.md: "Term tables".
 #![tactic(auto)]
 
 ghost use Rattle.std.specs.Prelude.{◌≡◌, ◌-◌, ◌%◌, ◌^◌, ◌≤◌, nat_lt};
