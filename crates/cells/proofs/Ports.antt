@@ -1,5 +1,5 @@
 -- Law: the tests of a number at the ports that they let pass, and a test of all three numbers from its parts.
--- A port's tag is its place in the list of ports. The proofs of `cells::fits` cite it. Assumes nothing.
+-- A port's tag is its place in the list of ports. `Wires` cites it. Assumes nothing.
 use Prim.Native.Nat.{ℕ, ◌≤◌, ◌<◌}
 use mathlib.Core.Path.{◌≡◌, refl}
 use mathlib.Core.Bool.{Bool, true}

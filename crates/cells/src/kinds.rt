@@ -7,7 +7,7 @@ ghost use Rattle.circuit.specs.Cells.{bit_kind, word_kind, ports_of};
 use circuit::Port;
 
 // A kind's three numbers, each as what it is.
-#[derive(Drop)]
+#[derive(Clone, Copy)]
 pub struct Ports {
     pub x: Port,
     pub y: Port,

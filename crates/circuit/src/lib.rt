@@ -4,7 +4,7 @@
 #![tactic(auto)]
 
 // What one of a cell's three numbers is.
-#[derive(Drop)]
+#[derive(Clone, Copy)]
 pub enum Port {
     // No use: it is 0.
     Unused,
@@ -21,14 +21,14 @@ pub enum Port {
 }
 
 // The compiler's answer: the count of cells, i, o and the done wire, or a refusal.
-#[derive(Drop)]
+#[derive(Clone, Copy)]
 pub enum Emission {
     Emitted(u32, u32, u32, u32),
     Refused(u32, u32),
 }
 
 // The compiler's answer with its output wires, those past o 0.
-#[derive(Drop)]
+#[derive(Clone, Copy)]
 pub struct Compiled {
     pub emission: Emission,
     pub wires: [u32; 16],

@@ -1,4 +1,4 @@
--- Law: a number that is not zero is a bit that is high. The simulator cites it of a wire, the calls from C of load. Assumes nothing.
+-- Law: a number that is not zero is a bit that is high. The benchmark's call from C cites it of load. Assumes nothing.
 use Prim.Native.Nat.{ℕ, zero, suc}
 use mathlib.Core.Path.{◌≡◌, refl}
 use mathlib.Core.Bool.{not}

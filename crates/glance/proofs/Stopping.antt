@@ -1,4 +1,4 @@
--- Law: of tests one after the other, which stop at the first no, a later one says what all say. `glance::rows` cites it. Assumes nothing.
+-- Law: of tests one after the other, which stop at the first no, a later one says what all say. Assumes nothing.
 use mathlib.Core.Path.{◌≡◌}
 use mathlib.Core.Bool.{Bool, true}
 use Rattle.meaning.specs.Choices.{and}

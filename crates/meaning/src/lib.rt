@@ -3,14 +3,14 @@
 #![tactic(auto)]
 
 // A judgement: accepted, or refused with a number and the place that it names.
-#[derive(Drop)]
+#[derive(Clone, Copy)]
 pub enum Verdict {
     Accepted,
     Refused(u32, u32),
 }
 
 // A table's judgement with each term's input words, output words, and cells up to the cap.
-#[derive(Drop)]
+#[derive(Clone, Copy)]
 pub struct Facts {
     pub verdict: Verdict,
     pub ins: [u32; 256],
@@ -19,14 +19,14 @@ pub struct Facts {
 }
 
 // How a run under a budget ends: not within it, or after so many cycles.
-#[derive(Drop)]
+#[derive(Clone, Copy)]
 pub enum End {
     Unfinished,
     Ended(u32),
 }
 
 // The evaluator's answer: o and the cycles, unfinished, or a refusal.
-#[derive(Drop)]
+#[derive(Clone, Copy)]
 pub enum Outcome {
     Answered(u32, u32),
     Unfinished,
@@ -34,7 +34,7 @@ pub enum Outcome {
 }
 
 // The evaluator's answer with its words.
-#[derive(Drop)]
+#[derive(Clone, Copy)]
 pub struct Evaluated {
     pub outcome: Outcome,
     pub words: [u32; 16],

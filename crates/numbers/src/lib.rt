@@ -16,14 +16,14 @@ ghost use Rattle.numbers.specs.Lists.{
 };
 
 // How reading a list of numbers ends: so many numbers, or no list of numbers.
-#[derive(Drop)]
+#[derive(Clone, Copy)]
 pub enum Reading {
     Numbers(u32),
     NotNumbers,
 }
 
 // The numbers read, those past their count 0.
-#[derive(Drop)]
+#[derive(Clone, Copy)]
 pub struct Listed {
     pub reading: Reading,
     pub numbers: [u32; 1025],

@@ -1,7 +1,7 @@
 -- Writing: cells in a lent netlist. Definitions only.
 -- Read after: circuit's `Pieces`. Assumes nothing.
 use Rattle.std.specs.Prelude.{ℕ, ◌+◌, ◌*◌, ◌≤◌, List, [], ◌∷◌, length}
-use Rattle.std.proofs.lemmas.List.Edits.{sets}
+use lib.Seq.{sets}
 use Rattle.circuit.specs.Cells.{stride, Cell, numbers_of}
 use Rattle.circuit.specs.Pieces.{Block, gates, ending}
 

@@ -10,7 +10,7 @@ use crate::cells::{put, wide};
 use crate::rows::wires;
 
 // A block that stands in the netlist: the wire that follows it, and its done wire.
-#[derive(Drop)]
+#[derive(Clone, Copy)]
 pub struct Made {
     pub next: u32,
     pub done: u32,

@@ -13,7 +13,7 @@ use crate::rows::{choose, keep, registers, wires};
 
 // A test with two branches in the netlist: where its gates stand and what follows it; the done
 // wires of the test, of the branch left by and of the other.
-#[derive(Drop)]
+#[derive(Clone, Copy)]
 pub struct Forked {
     pub gate: u32,
     pub next: u32,

@@ -1,7 +1,7 @@
 // Each answer as the numbers that C sees: an enum's case by case, then the words.
 // `meaning`'s `specs/Answers.antt` and `circuit`'s `specs/Compiling.antt` say which is which.
 ghost use Rattle.std.specs.Prelude.{◌≡◌, ◌++◌, ◌+◌, ◌≤◌, length};
-ghost use Rattle.std.proofs.lemmas.List.Edits.{sets};
+ghost use lib.Seq.{sets};
 ghost use Rattle.meaning.specs.Choices.{bit};
 ghost use Rattle.meaning.specs.Answers.{judged, outcome_numbers, evaluated_numbers};
 ghost use Rattle.circuit.specs.Compiling.{emission_numbers, compiled_numbers};

@@ -1,5 +1,5 @@
--- Law: how the tests of refusal 19 go on by one cell or output, and of what kind a missing wire is. The proofs of the loops and of
--- `is_bit` and `is_word` cite it. Assumes nothing.
+-- Law: how the tests of refusal 19 go on by one cell or output, and of what kind a missing wire is. The proofs of
+-- the loops cite it. Assumes nothing.
 use Prim.Native.Nat.{ℕ, ◌+◌}
 use mathlib.Core.Path.{◌≡◌, refl}
 use mathlib.Core.Bool.{Bool, true, false}

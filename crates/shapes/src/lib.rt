@@ -24,7 +24,7 @@ pub struct Known {
 }
 
 // What a term gives, or the number of its refusal.
-#[derive(Drop)]
+#[derive(Clone, Copy)]
 pub enum Shape {
     Gives(Known),
     Bad(u32),

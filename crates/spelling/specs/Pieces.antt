@@ -3,7 +3,7 @@
 use Rattle.std.specs.Prelude.{ℕ, zero, suc, ◌+◌, ◌-◌, ◌/◌, ◌%◌, ◌≡◌, List, [], ◌∷◌, ◌++◌, eqb, ltb, length}
 use Prim.Native.Char.{code}
 use Prim.Native.String.{String, [] as none, ◌∷◌ as ◌and◌}
-use Rattle.std.proofs.lemmas.List.Edits.{sets}
+use lib.Seq.{sets}
 use Rattle.meaning.specs.Choices.{pick, at}
 use Rattle.spelling.specs.declared.Blanks.{Blanks}
 

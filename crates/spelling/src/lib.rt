@@ -14,7 +14,7 @@ ghost use Rattle.spelling.specs.Pieces.{
 };
 
 // What the capitals N, X, Y, Z, W and T of a template stand for.
-#[derive(Clone, Copy, Drop)]
+#[derive(Clone, Copy)]
 pub struct Blanks {
     pub n: u32,
     pub x: u32,

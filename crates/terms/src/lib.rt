@@ -58,8 +58,9 @@ pub fn check(width: u32, table: &[u32]) -> Facts
         return bare(frame);
     };
     let facts = tables::scanned(width, table);
-    let Verdict::Accepted = facts.verdict else {
-        return bare(facts.verdict);
+    let verdict = facts.verdict;
+    let Verdict::Accepted = verdict else {
+        return bare(verdict);
     };
     let last = table.len() / 4 - 1;
     if 4096 < 6 + facts.ins[last] + facts.sizes[last] {

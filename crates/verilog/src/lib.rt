@@ -13,7 +13,7 @@ ghost use Rattle.verilog.specs.Writing.{written_of, text_after, passed_on};
 use meaning::Verdict;
 
 // The writer's answer: the text's length, or a refusal.
-#[derive(Drop)]
+#[derive(Clone, Copy)]
 pub enum Written {
     Length(u32),
     Refused(u32, u32),
