@@ -36,24 +36,14 @@ returns-in_default-written-clause-wrote c =
     r.ensures.text_after _ _ q in
     rw w.0 (rw (q, w.1) at c.not_written.ensures.wrote)
 
-pub returns-clause-wrote : goal.returns-clause-wrote
-returns-clause-wrote c =
+pub returns : goal.returns
+returns c =
     let a = c.args in
     let k = c.compile-compiled in
     let m = c.in-Emitted.is in
     let r = c.write-written in
     let s = cells_are a.width a.table.now k.result k.ensures.0 _ _ _ _ m _ _ refl k.ensures.1 in
     let long : 65536 ≡ length a.text.now = omega arith in
-    (text-written a.width a.table.now k.result k.ensures.0 _ _ _ _ m _ _ _ s long r.result r.ensures.value
-    r.ensures.text_after _ c.in-Length.is).0
-
-pub returns-clause-upper_bound : goal.returns-clause-upper_bound
-returns-clause-upper_bound c =
-    let a = c.args in
-    let k = c.compile-compiled in
-    let m = c.in-Emitted.is in
-    let r = c.write-written in
-    let s = cells_are a.width a.table.now k.result k.ensures.0 _ _ _ _ m _ _ refl k.ensures.1 in
-    let long : 65536 ≡ length a.text.now = omega arith in
-    (text-written a.width a.table.now k.result k.ensures.0 _ _ _ _ m _ _ _ s long r.result r.ensures.value
-    r.ensures.text_after _ c.in-Length.is).1
+    let w = text-written a.width a.table.now k.result k.ensures.0 _ _ _ _ m _ _ _ s long r.result r.ensures.value
+    r.ensures.text_after _ c.in-Length.is in
+    record { wrote = w.0; upper_bound = w.1 }

@@ -1,7 +1,23 @@
 -- Each arm is its kind's case; a kind without an arm of its own is in none of the rows.
-use Rattle.std.proofs.Common.{refl, arith, le-ltb, lt-ltb, ne_eqb}
-use Rattle.circuit.specs.Cells.{ports_of}
+use Rattle.std.proofs.Common.{◌≡◌, ℕ, ◌<◌, eqb, refl, inl, inr, arith, le-ltb, lt-ltb}
+use Rattle.meaning.specs.Choices.{pick}
+use Rattle.meaning.specs.Words.{arity}
+use Rattle.meaning.proofs.Tests.{split}
+use Rattle.circuit.specs.declared.Port.TheVariants as port
+use Rattle.circuit.specs.Cells.{Ports, ports, ports_of}
+use Rattle.circuit.proofs.Refusals.{operation-ports}
 use Rattle.cells.proofs.kinds.ports_of.Goals as goal
+
+-- A kind without an arm of its own is an operation, or 7, which is no kind.
+abbrev operands : ℕ → Ports
+operands k = pick (eqb (arity k) 2) (ports port.Word port.Word port.Unused) (ports port.Word port.Unused port.Unused)
+
+seven : (k : ℕ) → k ≡ 7 → ports_of k ≡ operands k
+unfolding ports_of
+seven k e = rw e refl
+
+other : (k : ℕ) → (k < 13 → k ≡ 7) → ports_of k ≡ operands k
+other k f = elim (split k 13) [ inl h ↦ seven k (f h) | inr h ↦ operation-ports k h ]
 
 pub returns-in-0 : goal.returns-in-0
 unfolding ports_of
@@ -52,39 +68,7 @@ unfolding ports_of
 returns-in-12 c = rw c.in-12.is c.one-in-12.ensures
 
 pub returns-then-kind-lt20 : goal.returns-then-kind-lt20
-unfolding ports_of
-returns-then-kind-lt20 c =
-    rw (
-      ne_eqb c.args.kind 0 (λ e. omega arith),
-      ne_eqb c.args.kind 1 (λ e. omega arith),
-      ne_eqb c.args.kind 2 (λ e. omega arith),
-      ne_eqb c.args.kind 3 (λ e. omega arith),
-      ne_eqb c.args.kind 4 (λ e. omega arith),
-      ne_eqb c.args.kind 5 (λ e. omega arith),
-      ne_eqb c.args.kind 6 (λ e. omega arith),
-      ne_eqb c.args.kind 8 (λ e. omega arith),
-      ne_eqb c.args.kind 9 (λ e. omega arith),
-      ne_eqb c.args.kind 10 (λ e. omega arith),
-      ne_eqb c.args.kind 11 (λ e. omega arith),
-      ne_eqb c.args.kind 12 (λ e. omega arith),
-      lt-ltb _ 20 c.if-kind-lt20.true,
-    ) c.two-then-kind-lt20.ensures
+returns-then-kind-lt20 c = rw (other c.args.kind (λ l. omega arith), lt-ltb _ 20 c.if-kind-lt20.true) c.two-then-kind-lt20.ensures
 
 pub returns-else-kind-lt20 : goal.returns-else-kind-lt20
-unfolding ports_of
-returns-else-kind-lt20 c =
-    rw (
-      ne_eqb c.args.kind 0 (λ e. omega arith),
-      ne_eqb c.args.kind 1 (λ e. omega arith),
-      ne_eqb c.args.kind 2 (λ e. omega arith),
-      ne_eqb c.args.kind 3 (λ e. omega arith),
-      ne_eqb c.args.kind 4 (λ e. omega arith),
-      ne_eqb c.args.kind 5 (λ e. omega arith),
-      ne_eqb c.args.kind 6 (λ e. omega arith),
-      ne_eqb c.args.kind 8 (λ e. omega arith),
-      ne_eqb c.args.kind 9 (λ e. omega arith),
-      ne_eqb c.args.kind 10 (λ e. omega arith),
-      ne_eqb c.args.kind 11 (λ e. omega arith),
-      ne_eqb c.args.kind 12 (λ e. omega arith),
-      le-ltb _ 20 c.if-kind-lt20.false,
-    ) c.one-else-kind-lt20.ensures
+returns-else-kind-lt20 c = rw (other c.args.kind (λ l. omega arith), le-ltb _ 20 c.if-kind-lt20.false) c.one-else-kind-lt20.ensures
