@@ -8,7 +8,7 @@ ghost use Rattle.circuit.specs.Simulated.{step_verdict};
 ghost use Rattle.pace.specs.Pairs.{even_after, odd_after};
 
 // Judges once, with `even` as the wires of the cycle before and `odd` as the room for the next,
-// and then steps `pairs` times from `even` into `odd` and back. Answers: refusal number, place.
+// and then steps `pairs` times from `even` into `odd` and back.
 #[unsafe(no_mangle)]
 pub extern "C" fn rumiotka_pace(
     width: u32,

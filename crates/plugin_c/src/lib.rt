@@ -1,5 +1,5 @@
 // The plugin for C: its five functions under the names and with the clauses that they have in
-// `plugin`. `include/rumiotka.h` declares them for a host.
+// `plugin`, which says what numbers each answers. `include/rumiotka.h` declares them for a host.
 #![tactic(auto)]
 
 ghost use Rattle.std.specs.Prelude.{◌≡◌, length};
@@ -9,8 +9,7 @@ ghost use Rattle.circuit.specs.Compiling.{compiled_of, compiled_numbers, netlist
 ghost use Rattle.circuit.specs.Simulated.{power_up_verdict, wires_at_start, step_verdict, wires_after};
 ghost use Rattle.verilog.specs.Writing.{written_of, written_numbers, text_after};
 
-// Evaluates a table on words. Answers: refusal number, place, 1 if ended else 0, cycles, o, and
-// 16 words.
+// Evaluates a table on words.
 #[unsafe(no_mangle)]
 pub extern "C" fn rumiotka_evaluate(
     width: u32,
@@ -25,8 +24,7 @@ pub extern "C" fn rumiotka_evaluate(
     plugin::rumiotka_evaluate(width, table, words, budget, answer);
 }
 
-// Compiles a table into `netlist`. Answers: refusal number, place, cells, i, o, the done wire, and
-// 16 output wires.
+// Compiles a table into `netlist`.
 #[unsafe(no_mangle)]
 pub extern "C" fn rumiotka_compile(
     width: u32,
@@ -42,7 +40,7 @@ pub extern "C" fn rumiotka_compile(
     plugin::rumiotka_compile(width, table, netlist, answer);
 }
 
-// Writes all wires of a netlist's cycle 0 into `wires`. Answers: refusal number, place.
+// Writes all wires of a netlist's cycle 0 into `wires`.
 #[unsafe(no_mangle)]
 pub extern "C" fn rumiotka_power_up(
     width: u32,
@@ -60,7 +58,7 @@ pub extern "C" fn rumiotka_power_up(
     plugin::rumiotka_power_up(width, netlist, load, words, wires, answer);
 }
 
-// Writes all wires of the cycle after `before` into `after`. Answers: refusal number, place.
+// Writes all wires of the cycle after `before` into `after`.
 #[unsafe(no_mangle)]
 pub extern "C" fn rumiotka_step(
     width: u32,
@@ -79,7 +77,7 @@ pub extern "C" fn rumiotka_step(
     plugin::rumiotka_step(width, netlist, before, load, words, after, answer);
 }
 
-// Writes a netlist as Verilog into `text`. Answers: refusal number, place, the text's length.
+// Writes a netlist as Verilog into `text`.
 #[unsafe(no_mangle)]
 pub extern "C" fn rumiotka_write(
     width: u32,
