@@ -9,14 +9,14 @@ use native.Mathlib.Omega.{arith}
 use lib.Dec.{eqb, leb}
 use lib.ListN.{length}
 use borrow.Author.Tests.{ltb-true, eqb-true, leb-true, lt-leb, ne_eqb}
-use Rattle.meaning.specs.declared.Verdict.TheVariants as verdict
 use Rattle.meaning.specs.Choices.{or}
 use Rattle.meaning.specs.Terms.{number_of, kind_of, count, main_of}
+use Rattle.meaning.specs.Refusals.{passed as no_refusal}
 use Rattle.meaning.specs.Counts.{ins, outs, whole_size}
 use Rattle.meaning.specs.Checks.{known_kind, operands_of, used_of, unused_zero, values_fit, operands_below, operand_tree, test_fits}
 use Rattle.meaning.specs.Checks.{counts_fit, par_small, refusal_at, size_verdict, verdict_of}
 use Rattle.meaning.proofs.Tests.{clash, split, both, either}
-use Rattle.meaning.proofs.Verdicts.{not-refused, went_on, none-refused}
+use Rattle.meaning.proofs.Verdicts.{went_on, none-refused}
 
 -- Term k passes checks 3 to 8: a row of the table of kinds each.
 pub data Fits (w : ℕ) (t : List ℕ) (k : ℕ) : Type 0 where
@@ -76,15 +76,15 @@ record Passed (w : ℕ) (t : List ℕ) (k : ℕ) : Type 0 where
   counts : counts_fit t k ≡ true
   few : par_small t k ≡ true
 
-passed : (w : ℕ) (t : List ℕ) (k : ℕ) → refusal_at w t k ≡ 0 → Passed w t k
+passed : (w : ℕ) (t : List ℕ) (k : ℕ) → refusal_at w t k ≡ no_refusal → Passed w t k
 unfolding refusal_at
 passed w t k h =
-    let a = not-refused _ _ _ h in
-    let b = not-refused _ _ _ a.1 in
-    let c = not-refused _ _ _ b.1 in
-    let d = not-refused _ _ _ c.1 in
-    let e = not-refused _ _ _ d.1 in
-    let f = not-refused _ _ _ e.1 in
+    let a = went_on _ _ _ h in
+    let b = went_on _ _ _ a.1 in
+    let c = went_on _ _ _ b.1 in
+    let d = went_on _ _ _ c.1 in
+    let e = went_on _ _ _ d.1 in
+    let f = went_on _ _ _ e.1 in
     record { known = a.0; unused = b.0; values = c.0; below = d.0; counts = e.0; few = f.0 }
 
 -- An unused number is 0; an operand is below its term.
@@ -191,17 +191,17 @@ module _ (w : ℕ) (t : List ℕ) (k : ℕ) (p : Passed w t k) where
       let z = spare 0 u in
       op_fits l h (z.0 (omega arith)) (z.1 (omega arith)) (z.2 (omega arith))
 
-pub fits : (w : ℕ) (t : List ℕ) (k : ℕ) → refusal_at w t k ≡ 0 → Fits w t k
+pub fits : (w : ℕ) (t : List ℕ) (k : ℕ) → refusal_at w t k ≡ no_refusal → Fits w t k
 fits w t k h =
     let p : Passed w t k = passed w t k h in
     by_kind (kind_of t k) p.known (on_seq w t k p) (on_par w t k p) (on_ite w t k p) (on_rec w t k p) (on-const w t k p)
     (on-field w t k p) (on_op w t k p)
 
-pub accepted : (w : ℕ) (t : List ℕ) → verdict_of w t ≡ verdict.Accepted → Accepted w t
+pub accepted : (w : ℕ) (t : List ℕ) → verdict_of w t ≡ no_refusal → Accepted w t
 unfolding verdict_of
 accepted w t h =
-    let a = went_on _ _ _ _ h in
-    let b = went_on _ _ _ _ a.1 in
+    let a = went_on _ _ _ h in
+    let b = went_on _ _ _ a.1 in
     let c = none-refused (refusal_at w t) (count t) 0 (size_verdict t) b.1 in
     let width = both _ _ a.0 in
     let long = both _ _ b.0 in
@@ -214,5 +214,5 @@ accepted w t h =
       four = omega arith;
       some = (omega arith, omega arith);
       fits = λ k i. fits w t k (c.0 k (omega arith) (omega arith));
-      small = leb-true _ _ (went_on _ _ _ _ c.1).0;
+      small = leb-true _ _ (went_on _ _ _ c.1).0;
     }

@@ -1,4 +1,4 @@
--- Law: a table whose terms all fit, with its width, length and size, gets the verdict Accepted: with `Accepted`, exactly those
+-- Law: a table whose terms all fit, with its width, length and size, is accepted: with `Accepted`, exactly those
 -- do. Assumes nothing.
 use Prim.Native.Nat.{ℕ, ◌%◌, ◌≤◌}
 use mathlib.Core.Path.{◌≡◌}
@@ -7,9 +7,9 @@ use mathlib.Core.List.{List}
 use native.Mathlib.Omega.{arith}
 use lib.ListN.{length}
 use borrow.Author.Tests.{lt-ltb, le-leb, lt-leb, eq-eqb, ne_eqb}
-use Rattle.meaning.specs.declared.Verdict.TheVariants as verdict
 use Rattle.meaning.specs.Terms.{number_of, kind_of, count, main_of}
 use Rattle.meaning.specs.Counts.{whole_size}
+use Rattle.meaning.specs.Refusals.{passed}
 use Rattle.meaning.specs.Checks.{known_kind, operands_of, used_of, values_fit, operands_below, counts_fit, par_small, refusal_at}
 use Rattle.meaning.specs.Checks.{verdict_of}
 use Rattle.meaning.proofs.Verdicts.{scan-passes}
@@ -49,11 +49,11 @@ module _ (w : ℕ) (t : List ℕ) (k : ℕ) where
         few = rw two;
       }
 
-  op-passes : Plain → number_of t k 1 ≡ 0 → number_of t k 2 ≡ 0 → number_of t k 3 ≡ 0 → refusal_at w t k ≡ 0
+  op-passes : Plain → number_of t k 1 ≡ 0 → number_of t k 2 ≡ 0 → number_of t k 3 ≡ 0 → refusal_at w t k ≡ passed
   unfolding operands_below refusal_at
   op-passes p a b c = rw (p.known, p.used, eq-eqb _ _ a, eq-eqb _ _ b, eq-eqb _ _ c, p.values, p.operands, p.counts, p.few)
 
-  pub fits-passes : Fits w t k → refusal_at w t k ≡ 0
+  pub fits-passes : Fits w t k → refusal_at w t k ≡ passed
   unfolding operands_of used_of operands_below counts_fit par_small refusal_at
   fits-passes (seq-fits e z a b p) = cc (eq-eqb _ _ z, lt-ltb _ _ a, lt-ltb _ _ b, eq-eqb _ _ p)
   fits-passes (par-fits e z a b p q) = cc (eq-eqb _ _ z, lt-ltb _ _ a, lt-ltb _ _ b, eq-eqb _ _ p, le-leb _ _ q)
@@ -65,7 +65,7 @@ module _ (w : ℕ) (t : List ℕ) (k : ℕ) where
   fits-passes (field_fits e z a b v) = cc (eq-eqb _ _ z, le-leb _ _ a, le-leb _ _ b, lt-ltb _ _ v)
   fits-passes (op_fits l u a b c) = op-passes (plain l u) a b c
 
-pub accepting : (w : ℕ) (t : List ℕ) → Accepted w t → verdict_of w t ≡ verdict.Accepted
+pub accepting : (w : ℕ) (t : List ℕ) → Accepted w t → verdict_of w t ≡ passed
 unfolding verdict_of
 accepting w t a =
     let s = a.some in

@@ -5,6 +5,7 @@ pub mod Lists
 pub mod Decoded
 pub mod Accepted
 pub mod Accepting
+pub mod Naming
 pub mod Rows
 pub mod Typed
 pub mod Runs

@@ -6,12 +6,13 @@ use mathlib.Core.List.{List, [], ◌∷◌, ◌++◌}
 use mathlib.Core.Logic.{inl, inr}
 use native.Mathlib.Omega.{arith}
 use lib.Dec.{ltb}
-use lib.ListN.{length, replicate, length-append, length-replicate, get_or-append}
+use lib.ListN.{length, get_or, replicate, length-append, length-replicate, get_or-append}
 use lib.Seq.{get_or_at}
 use borrow.Author.Tests.{ltb-true, lt-ltb}
 use Rattle.meaning.specs.Choices.{at, padded, listed, all_below}
-use Rattle.meaning.specs.Terms.{count, Term, tree}
-use Rattle.meaning.specs.Answers.{column}
+use Rattle.meaning.specs.Terms.{count, tree}
+use Rattle.meaning.specs.declared.Known.{Known}
+use Rattle.meaning.specs.Answers.{known_of, known_facts}
 use Rattle.meaning.proofs.Tests.{split, both}
 
 pub zeros-at : (n j : ℕ) → at (replicate n 0) j ≡ 0
@@ -38,29 +39,29 @@ append-all P (a ∷ l) m f g zero = f 0
 append-all P (a ∷ l) m f g (suc j) = append-all P l m (λ i. f (suc i)) g j
 
 -- f of each number below n.
-pub listed-length : (f : ℕ → ℕ) (n : ℕ) → length (listed f n) ≡ n
-unfolding listed
-listed-length f zero = refl
-listed-length f (suc n) = simp length-append (omega (arith, listed-length f n))
+module _ {A : Type 0} (f : ℕ → A) where
+  pub listed-length : (n : ℕ) → length (listed f n) ≡ n
+  unfolding listed
+  listed-length zero = refl
+  listed-length (suc n) = simp length-append (omega (arith, listed-length n))
 
-pub listed_at : (f : ℕ → ℕ) (n k : ℕ) → k < n → at (listed f n) k ≡ f k
-unfolding listed
-listed_at f zero k h = absurd (omega arith)
-listed_at f (suc n) k h = elim (split k n) [
-  | inl a ↦ get_or-append (listed f n) (f n ∷ []) 0 k (omega (arith, listed-length f n)) ∙ listed_at f n k a
-  | inr a ↦
-      (let q : n ≡ k = omega arith in
-      get_or_at (listed f n) (f n) [] 0 k (listed-length f n ∙ q) ∙ ap f q)
-]
+  pub listed_at : (n k : ℕ) (d : A) → k < n → get_or (listed f n) k d ≡ f k
+  unfolding listed
+  listed_at zero k d h = absurd (omega arith)
+  listed_at (suc n) k d h = elim (split k n) [
+    | inl a ↦ get_or-append (listed f n) (f n ∷ []) d k (omega (arith, listed-length n)) ∙ listed_at n k d a
+    | inr a ↦ (let q : n ≡ k = omega arith in get_or_at (listed f n) (f n) [] d k (listed-length n ∙ q) ∙ ap f q)
+  ]
 
--- A fact of each term, in an array of 256.
-module _ (f : Term → ℕ) (t : List ℕ) (few : count t ≤ 256) where
-  pub column-length : length (column f t) ≡ 256
-  column-length = padded-length 256 (listed (λ k. f (tree t k)) (count t)) (omega (arith, listed-length (λ k. f (tree t k)) (count t)))
+-- What is known of each term, in an array of 256.
+module _ (t : List ℕ) (few : count t ≤ 256) where
+  pub facts-length : length (known_facts t) ≡ 256
+  facts-length = simp (length-append, length-replicate) (omega (arith, listed-length (λ k. known_of (tree t k)) (count t)))
 
-  pub column-at : (k : ℕ) → k < count t → at (column f t) k ≡ f (tree t k)
-  column-at k h =
-      padded-at 256 (listed (λ j. f (tree t j)) (count t)) k ∙ listed_at (λ j. f (tree t j)) (count t) k h
+  pub facts-at : (k : ℕ) (d : Known) → k < count t → get_or (known_facts t) k d ≡ known_of (tree t k)
+  facts-at k d h =
+      get_or-append (listed (λ j. known_of (tree t j)) (count t)) _ d k (omega (arith, listed-length (λ j. known_of (tree t j)) (count t)))
+      ∙ listed_at (λ j. known_of (tree t j)) (count t) k d h
 
 -- The test that all numbers are below a bound.
 pub all-below-at : (b : ℕ) (l : List ℕ) → all_below b l ≡ true → (j : ℕ) → j < length l → at l j < b

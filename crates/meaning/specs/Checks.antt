@@ -1,9 +1,9 @@
 -- Checks: the refusals 1 to 9 of a width and a table, in their order and with their places. Definitions only.
 -- docs/READING.md: "Refusal numbers". Read after: `Counts`. Assumes nothing.
-use Rattle.std.specs.Prelude.{ℕ, zero, suc, ◌+◌, ◌%◌, ◌^◌, Bool, true, List, eqb, ltb, leb, length}
-use Rattle.meaning.specs.declared.Verdict.{Verdict}
-use Rattle.meaning.specs.declared.Verdict.TheVariants.{Accepted, Refused}
+use Rattle.std.specs.Prelude.{ℕ, zero, suc, ◌+◌, ◌%◌, ◌^◌, Bool, true, List, eqb, ltb, leb, length, Err}
+use Rattle.meaning.specs.declared.Cause.TheVariants as cause
 use Rattle.meaning.specs.Choices.{pick, and, or}
+use Rattle.meaning.specs.Refusals.{Check, Verdict, passed, refused, on_verdict}
 use Rattle.meaning.specs.Terms.{number_of, kind_of, count, Term, tree, main_of}
 use Rattle.meaning.specs.Counts.{ins, outs, whole_size}
 
@@ -83,8 +83,8 @@ unfoldable pub par_small : List ℕ → ℕ → Bool
 par_small t k =
     pick (eqb (kind_of t k) 2) (leb (outs (operand_tree t k 1) + outs (operand_tree t k 2)) 16) true
 
--- The first refusal of 3 to 8 that term k gives, or 0 where it gives none.
-unfoldable pub refusal_at : ℕ → List ℕ → ℕ → ℕ
+-- 3 to 8 of term k: the first that it fails.
+unfoldable pub refusal_at : ℕ → List ℕ → ℕ → Check
 refusal_at w t k =
     pick (known_kind (kind_of t k))
     (pick (unused_zero t k)
@@ -92,19 +92,28 @@ refusal_at w t k =
     (pick (operands_below t k (operands_of (kind_of t k)))
     (pick (counts_fit t k)
     (pick (par_small t k)
-    0 8) 7) 6) 5) 4) 3
+    passed
+    (Err cause.ParOutputs))
+    (Err cause.WordCounts))
+    (Err cause.Operand))
+    (Err cause.TermValue))
+    (Err cause.UnusedNumber))
+    (Err cause.TermKind)
 
 -- 9: the whole circuit of the main term has at most 4,096 cells.
 abbrev pub size_verdict : List ℕ → Verdict
-size_verdict t = pick (leb (whole_size (main_of t)) 4096) Accepted (Refused 9 0)
+size_verdict t = pick (leb (whole_size (main_of t)) 4096) passed (refused cause.CircuitSize 0)
 
--- n places from place k on: the first whose number is not 0 is refused with it; where there is none, what follows decides.
-unfoldable pub first_refusal : (ℕ → ℕ) → ℕ → ℕ → Verdict → Verdict
-first_refusal number zero k follows = follows
-first_refusal number (suc n) k follows =
-    pick (eqb (number k) 0) (first_refusal number n (suc k) follows) (Refused (number k) k)
+-- n places from place k on: the first that fails its check is refused for it; where there is none, what follows decides.
+unfoldable pub first_refusal : (ℕ → Check) → ℕ → ℕ → Verdict → Verdict
+first_refusal check zero k follows = follows
+first_refusal check (suc n) k follows = on_verdict (check k) (first_refusal check n (suc k) follows) (λ c. refused c k)
 
 -- 1 to 9: 3 to 8 term by term, lowest first, and 9 last.
 unfoldable pub verdict_of : ℕ → List ℕ → Verdict
 verdict_of w t =
-    pick (width_fits w) (pick (length_fits t) (first_refusal (refusal_at w t) (count t) 0 (size_verdict t)) (Refused 2 0)) (Refused 1 0)
+    pick (width_fits w)
+    (pick (length_fits t)
+    (first_refusal (refusal_at w t) (count t) 0 (size_verdict t))
+    (refused cause.TableLength 0))
+    (refused cause.Width 0)

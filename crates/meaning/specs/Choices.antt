@@ -37,7 +37,7 @@ abbrev pub padded : ℕ → List ℕ → List ℕ
 padded n l = l ++ replicate (n - length l) 0
 
 -- f of each number below n, in order.
-unfoldable pub listed : (ℕ → ℕ) → ℕ → List ℕ
+unfoldable pub listed : {A : Type 0} → (ℕ → A) → ℕ → List A
 listed f zero = []
 listed f (suc n) = listed f n ++ (f n ∷ [])
 

@@ -1,41 +1,110 @@
-// The answers that the parts share, as values; `specs/Answers.antt` gives each case's numbers.
-// Nothing is computed here: the definitions are in `specs/`, the laws about them in `proofs/`.
+// The values that the parts share: why a call is refused, what a kind makes of a term, what is known
+// of a term, and the evaluator's answer. The definitions are in `specs/`, the laws about them in
+// `proofs/`; `specs/Answers.antt` gives each answer's numbers.
 #![tactic(auto)]
 
-// A judgement: accepted, or refused with a number and the place that it names.
-#[derive(Clone, Copy)]
-pub enum Verdict {
-    Accepted,
-    Refused(u32, u32),
+ghost use Rattle.std.specs.Prelude.{◌≡◌};
+ghost use Rattle.meaning.specs.Refusals.{cause_number, refusal};
+ghost use Rattle.meaning.specs.Kinds.{kind_named};
+
+// Why a call is refused; each cause has the number that docs/READING.md, "Refusal numbers", gives it.
+#[derive(Clone, Copy, Debug, PartialEq, Eq)]
+pub enum Cause {
+    Width = 1,
+    TableLength = 2,
+    TermKind = 3,
+    UnusedNumber = 4,
+    TermValue = 5,
+    Operand = 6,
+    WordCounts = 7,
+    ParOutputs = 8,
+    CircuitSize = 9,
+    NetlistRoom = 10,
+    InputWords = 11,
+    NetlistLength = 12,
+    CellKind = 13,
+    CellNumber = 14,
+    CellWire = 15,
+    WireSort = 16,
+    WireRoom = 17,
+    WireValue = 18,
+    Ports = 19,
+    TextRoom = 20,
 }
 
-// A table's judgement with each term's input words, output words, and cells up to the cap.
-#[derive(Clone, Copy)]
-pub struct Facts {
-    pub verdict: Verdict,
-    pub ins: [u32; 256],
-    pub outs: [u32; 256],
-    pub sizes: [u32; 256],
+impl Cause {
+    // The number of a cause.
+    pub fn number(self) -> u32
+        ensures { result ≡ cause_number self }
+    {
+        self as u32
+    }
 }
 
-// How a run under a budget ends: not within it, or after so many cycles.
-#[derive(Clone, Copy)]
-pub enum End {
-    Unfinished,
-    Ended(u32),
+// A refusal: its cause, and the term, cell or wire that it names, or 0.
+#[derive(Clone, Copy, Debug, PartialEq, Eq)]
+pub struct Refusal {
+    pub cause: Cause,
+    pub place: u32,
 }
 
-// The evaluator's answer: o and the cycles, unfinished, or a refusal.
-#[derive(Clone, Copy)]
-pub enum Outcome {
-    Answered(u32, u32),
-    Unfinished,
-    Refused(u32, u32),
+// A cause that names no place.
+impl From<Cause> for Refusal {
+    ghost from_gives = { λ cause result. result ≡ refusal cause 0 };
+
+    fn from(cause: Cause) -> Refusal {
+        Refusal { cause, place: 0 }
+    }
 }
 
-// The evaluator's answer with its words.
-#[derive(Clone, Copy)]
-pub struct Evaluated {
-    pub outcome: Outcome,
+// What a term of a kind does: one of the four combinators, or a leaf, which gives a constant, one of
+// its words, or an operation on two words or one.
+#[derive(Clone, Copy, Debug, PartialEq, Eq)]
+pub enum Kind {
+    Seq,
+    Par,
+    Ite,
+    Rec,
+    Const,
+    Field,
+    Binary,
+    Unary,
+}
+
+// Every number names one, the kinds that a table may not have too; refusal 3 judges those.
+impl From<u32> for Kind {
+    ghost from_gives = { λ number result. result ≡ kind_named number };
+
+    fn from(number: u32) -> Kind {
+        match number {
+            1 => Kind::Seq,
+            2 => Kind::Par,
+            3 => Kind::Ite,
+            4 => Kind::Rec,
+            9 => Kind::Const,
+            _ => if number < 13 {
+                Kind::Field
+            } else if number < 20 {
+                Kind::Binary
+            } else {
+                Kind::Unary
+            },
+        }
+    }
+}
+
+// What is known of a term: its words in and out, and its cells up to a cap.
+#[derive(Clone, Copy, Debug, PartialEq, Eq)]
+pub struct Known {
+    pub ins: u32,
+    pub outs: u32,
+    pub cells: u32,
+}
+
+// What the main term gives: so many output words, in so many cycles; the words past them are 0.
+#[derive(Clone, Copy, Debug, PartialEq, Eq)]
+pub struct Answer {
+    pub outs: u32,
+    pub cycles: u32,
     pub words: [u32; 16],
 }
