@@ -8,10 +8,10 @@ use native.Mathlib.Omega.{arith}
 use lib.ListN.{length, get_or-append}
 use lib.Seq.{get_or-append_seam}
 use borrow.Author.Tests.{lt-ltb, le-ltb}
-use Rattle.meaning.specs.declared.Verdict.TheVariants as verdict
 use Rattle.meaning.specs.Choices.{at}
 use Rattle.meaning.specs.Words.{Words}
 use Rattle.circuit.specs.Cells.{Cell, kind_at, cell_count, cell_at, cells_of, value}
+use Rattle.meaning.specs.Refusals.{passed}
 use Rattle.circuit.specs.Netlists.{netlist_verdict}
 use Rattle.circuit.specs.Clock.{Held, pass, starting, shown, wires}
 use Rattle.circuit.proofs.Places.{Each}
@@ -135,7 +135,7 @@ module _ (w : ℕ) (starts : ℕ → ℕ) (net : List ℕ) (load : Bits) (inputs
 
 -- Said of any netlist that is accepted: no cell but a register depends on its own wire or a later one, and each wire obeys its cell's
 -- equation in the first cycle and in every later one.
-module _ (w : ℕ) (net : List ℕ) (ok : netlist_verdict w net ≡ verdict.Accepted) (n : ℕ) (there : n < cell_count net) where
+module _ (w : ℕ) (net : List ℕ) (ok : netlist_verdict w net ≡ passed) (n : ℕ) (there : n < cell_count net) where
   pub lower_only : (load : Bool) (words : Words) (held : ℕ → ℕ → ℕ) (r s : ℕ → ℕ) → ((j : ℕ) → j < n → r j ≡ s j) →
       value w load words held r (cell_at net n) ≡ value w load words held s (cell_at net n)
   lower_only load words held r s e = reads-lower w load words held r s e ((checked w net ok).cells n there)

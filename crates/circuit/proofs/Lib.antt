@@ -1,5 +1,6 @@
 -- What is shown of the definitions, in order. The crate `promise` joins it to the theorems.
 -- How many cells and wires there are, and where the parts of a block stand.
+pub mod Naming
 pub mod Lengths
 pub mod Places
 pub mod Gives

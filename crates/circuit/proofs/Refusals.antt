@@ -7,6 +7,9 @@ use mathlib.Core.Logic.{inl, inr}
 use native.Mathlib.Omega.{arith}
 use lib.Dec.{eqb, ltb}
 use borrow.Author.Tests.{ltb-true, eqb-true, leb-true, not-true, lt-ltb, le-ltb, le-leb, lt-leb, ne_eqb}
+use Rattle.std.specs.Prelude.{Err}
+use Rattle.meaning.specs.declared.Cause.TheVariants as cause
+use Rattle.meaning.specs.Refusals.{Check, passed}
 use Rattle.circuit.specs.declared.Port.{Port}
 use Rattle.circuit.specs.declared.Port.TheVariants as port
 use Rattle.meaning.specs.Choices.{pick, and, or, not}
@@ -14,7 +17,7 @@ use Rattle.meaning.specs.Words.{arity}
 use Rattle.meaning.proofs.Tests.{clash, split, both, either}
 use Rattle.circuit.specs.Cells.{Cell, cell, kind_at, bit_kind, word_kind, ports, ports_of}
 use Rattle.circuit.specs.Netlists.{number_fits, wire_fits, sort_fits}
-use Rattle.meaning.proofs.Verdicts.{not-refused}
+use Rattle.meaning.proofs.Verdicts.{went_on}
 use Rattle.circuit.proofs.Passes.{
   BitBelow,
   WordBelow,
@@ -94,13 +97,17 @@ one-port k l = operation-ports k (omega arith) ∙ rw (le-ltb k 20 l)
 -- A port's three tests, in the netlist that has the wires' kinds.
 module _ (w : ℕ) (net : List ℕ) (count n : ℕ) where
   -- The refusal that a cell gives, from the cell itself.
-  abbrev pub refusal_of : Cell → ℕ
+  abbrev pub refusal_of : Cell → Check
   refusal_of (cell k x y z) =
       pick (or (bit_kind k) (word_kind k))
       (pick (and (number_fits w (ports_of k).x x) (and (number_fits w (ports_of k).y y) (number_fits w (ports_of k).z z)))
       (pick (and (wire_fits n count (ports_of k).x x) (and (wire_fits n count (ports_of k).y y) (wire_fits n count (ports_of k).z z)))
       (pick (and (sort_fits net (ports_of k).x x) (and (sort_fits net (ports_of k).y y) (sort_fits net (ports_of k).z z)))
-      0 16) 15) 14) 13
+      passed
+      (Err cause.WireSort))
+      (Err cause.CellWire))
+      (Err cause.CellNumber))
+      (Err cause.CellKind)
 
   module _ (known : (j : ℕ) → j < count → or (bit_kind (kind_at net j)) (word_kind (kind_at net j)) ≡ true) (below : n ≤ count) where
     is-bit : (v : ℕ) → v < count → not (word_kind (kind_at net v)) ≡ true → kind_at net v ≤ 6
@@ -127,13 +134,13 @@ module _ (w : ℕ) (net : List ℕ) (count n : ℕ) where
     port-fits port.LaterBit v a b c = bit_below count v (omega arith) b c
     port-fits port.LaterWord v a b c = word_below count v (omega arith) b c
 
-    ported : (k x y z : ℕ) → refusal_of (cell k x y z) ≡ 0 →
+    ported : (k x y z : ℕ) → refusal_of (cell k x y z) ≡ passed →
         (or (bit_kind k) (word_kind k) ≡ true) × Ported w count (kind_at net) n k x y z
     ported k x y z h =
-        let a = not-refused _ _ 12 h in
-        let b = not-refused _ _ 13 a.1 in
-        let c = not-refused _ _ 14 b.1 in
-        let d = not-refused _ _ 15 c.1 in
+        let a = went_on _ _ _ h in
+        let b = went_on _ _ _ a.1 in
+        let c = went_on _ _ _ b.1 in
+        let d = went_on _ _ _ c.1 in
         let b' = both _ _ b.0 in
         let c' = both _ _ c.0 in
         let d' = both _ _ d.0 in
@@ -192,7 +199,7 @@ module _ (w count : ℕ) (kinds : ℕ → ℕ) (n : ℕ) where
 -- A cell that is not refused, and one that passes.
 module _ (w : ℕ) (net : List ℕ) (count n : ℕ) where
   pub passes_of : ((j : ℕ) → j < count → or (bit_kind (kind_at net j)) (word_kind (kind_at net j)) ≡ true) → n ≤ count →
-      (c : Cell) → refusal_of w net count n c ≡ 0 → Passes w 16 count (kind_at net) n c
+      (c : Cell) → refusal_of w net count n c ≡ passed → Passes w 16 count (kind_at net) n c
   passes_of known below (cell k x y z) h =
       let p = ported w net count n known below k x y z h in
       row w count (kind_at net) n k x y z p.0 p.1
@@ -204,7 +211,7 @@ module _ (w : ℕ) (net : List ℕ) (count n : ℕ) where
   word-sort v h = lt-leb (kind_at net v) 6 (omega arith)
 
   two-not-refused : (k x y : ℕ) → 13 ≤ k → k ≤ 19 → WordBelow (kind_at net) n x → WordBelow (kind_at net) n y →
-      refusal_of w net count n (cell k x y 0) ≡ 0
+      refusal_of w net count n (cell k x y 0) ≡ passed
   two-not-refused k x y l u a b = rw (
     lt-leb k 6 (omega arith),
     le-leb 8 k (omega arith),
@@ -216,7 +223,7 @@ module _ (w : ℕ) (net : List ℕ) (count n : ℕ) where
     word-sort y b.1,
   )
 
-  one-not-refused : (k x : ℕ) → 20 ≤ k → k ≤ 22 → WordBelow (kind_at net) n x → refusal_of w net count n (cell k x 0 0) ≡ 0
+  one-not-refused : (k x : ℕ) → 20 ≤ k → k ≤ 22 → WordBelow (kind_at net) n x → refusal_of w net count n (cell k x 0 0) ≡ passed
   one-not-refused k x l u a = rw (
     lt-leb k 6 (omega arith),
     le-leb 8 k (omega arith),
@@ -226,7 +233,7 @@ module _ (w : ℕ) (net : List ℕ) (count n : ℕ) where
     word-sort x a.1,
   )
 
-  pub refused_none : {c : Cell} → Passes w 16 count (kind_at net) n c → refusal_of w net count n c ≡ 0
+  pub refused_none : {c : Cell} → Passes w 16 count (kind_at net) n c → refusal_of w net count n c ≡ passed
   unfolding ports_of
   refused_none load_passes = refl
   refused_none (not_passes x a) = rw (lt-ltb x n a.0, bit-sort x a.1)

@@ -6,10 +6,10 @@ use mathlib.Core.List.{List}
 use native.Mathlib.Omega.{arith}
 use lib.Dec.{eqb}
 use borrow.Author.Tests.{eqb-true, leb-true, lt-ltb, le-leb, lt-leb}
-use Rattle.meaning.specs.declared.Verdict.TheVariants as verdict
 use Rattle.meaning.specs.Choices.{at}
 use Rattle.meaning.proofs.Tests.{clash, by-test, both, either}
 use Rattle.circuit.specs.Cells.{cell_number, kind_at, cell_count, bit_kind, word_kind}
+use Rattle.meaning.specs.Refusals.{passed}
 use Rattle.circuit.specs.Netlists.{netlist_verdict}
 use Rattle.circuit.specs.Simulated.{inputs_given, wire_refusal}
 use Rattle.circuit.proofs.Checked.{known}
@@ -25,7 +25,7 @@ names-given net m h (suc n) l =
     (by-test (λ b. b ≡ true) (eqb (kind_at net n) 8) _ true
     (λ e. lt-ltb (cell_number net n 1) m (h n (omega arith) (eqb-true (kind_at net n) 8 e))) (λ e. refl))
 
-module _ (w : ℕ) (net : List ℕ) (ok : netlist_verdict w net ≡ verdict.Accepted) where
+module _ (w : ℕ) (net : List ℕ) (ok : netlist_verdict w net ≡ passed) where
   -- A wire that is a word is of a word's kind, and no bit.
   pub word-kind : (n : ℕ) → n < cell_count net → 8 ≤ kind_at net n → word_kind (kind_at net n) ≡ true
   word-kind n l h =
@@ -33,7 +33,7 @@ module _ (w : ℕ) (net : List ℕ) (ok : netlist_verdict w net ≡ verdict.Acce
       (λ a. clash (bit_kind (kind_at net n)) a (lt-leb (kind_at net n) 6 (omega arith))) (λ a. a)
 
   pub wire-in-range : (earlier : List ℕ) (n : ℕ) → n < cell_count net → Ranged w (kind_at net) n (at earlier n) →
-      wire_refusal w net earlier n ≡ 0
+      wire_refusal w net earlier n ≡ passed
   wire-in-range earlier n l r =
       either (bit_kind (kind_at net n)) (word_kind (kind_at net n)) (known w net ok n l)
       (λ a. rw (a, le-leb (at earlier n) 1 (r.as_bit (leb-true (kind_at net n) 6 a))))

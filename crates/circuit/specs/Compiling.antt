@@ -1,16 +1,14 @@
 -- Compiling: the whole circuit of a term, and what the compiler answers and writes. Definitions only.
 -- docs/READING.md: "Cells".
 -- Read after: `Blocks`, meaning's `Answers`. Assumes nothing.
-use Rattle.std.specs.Prelude.{ℕ, zero, suc, ◌*◌, List, [], ◌∷◌, ◌++◌, leb, length, drop}
-use Rattle.meaning.specs.declared.Verdict.{Verdict}
-use Rattle.meaning.specs.declared.Verdict.TheVariants as verdict
+use Rattle.std.specs.Prelude.{ℕ, zero, suc, ◌*◌, List, [], ◌∷◌, ◌++◌, replicate, leb, length, drop, Result, Ok, Err}
+use Rattle.meaning.specs.declared.Cause.TheVariants as cause
+use Rattle.meaning.specs.declared.Refusal.{Refusal}
 use Rattle.meaning.specs.Choices.{pick, padded}
 use Rattle.meaning.specs.Terms.{Term, main_of}
 use Rattle.meaning.specs.Counts.{ins, outs, whole_size}
 use Rattle.meaning.specs.Checks.{verdict_of}
-use Rattle.meaning.specs.Answers.{on_verdict}
-use Rattle.circuit.specs.declared.Emission.{Emission}
-use Rattle.circuit.specs.declared.Emission.TheVariants as emission
+use Rattle.meaning.specs.Refusals.{refusal_numbers, Verdict, passed, refused, on_verdict}
 use Rattle.circuit.specs.declared.Compiled.{Compiled}
 use Rattle.circuit.specs.Cells.{stride, Cell, numbers_of, load_cell, not_cell, and_cell, high_register, input_cell}
 use Rattle.circuit.specs.Pieces.{◌after◌, Block, wires_from}
@@ -40,33 +38,30 @@ netlist_of T = numbers_of (whole_cells T)
 unfoldable pub compile_verdict : ℕ → List ℕ → ℕ → Verdict
 compile_verdict w t room =
     on_verdict (verdict_of w t)
-    (pick (leb (whole_size (main_of t) * stride) room) verdict.Accepted (verdict.Refused 10 0))
-    verdict.Refused
+    (pick (leb (whole_size (main_of t) * stride) room) passed (refused cause.NetlistRoom 0))
+    Err
 
 -- The answer: the count of cells, i, o, the done wire, and the output wires in an array of 16.
 abbrev pub emitted : Term → Compiled
 emitted T = record {
-  emission = emission.Emitted (whole_size T) (ins T) (outs T) (main_block T).done;
+  cells = whole_size T;
+  ins = ins T;
+  outs = outs T;
+  done = (main_block T).done;
   wires = padded 16 (main_block T).outs;
 }
 
-abbrev pub not_emitted : ℕ → ℕ → Compiled
-not_emitted n p = record { emission = emission.Refused n p; wires = padded 16 [] }
-
-unfoldable pub compiled_of : ℕ → List ℕ → ℕ → Compiled
-compiled_of w t room = on_verdict (compile_verdict w t room) (emitted (main_of t)) not_emitted
+unfoldable pub compiled_of : ℕ → List ℕ → ℕ → Result Compiled Refusal
+compiled_of w t room = on_verdict (compile_verdict w t room) (Ok (emitted (main_of t))) Err
 
 -- The buffer afterwards: the cells, and past them what was there; all that was there where the call is refused.
 unfoldable pub netlist_after : ℕ → List ℕ → List ℕ → List ℕ
 netlist_after w t buffer =
     on_verdict (compile_verdict w t (length buffer))
     (netlist_of (main_of t) ++ drop (length (netlist_of (main_of t))) buffer)
-    (λ n p. buffer)
+    (λ r. buffer)
 
--- The numbers of an emission: refusal number, place, cells, i, o, the done wire; and the whole answer's 22.
-abbrev pub emission_numbers : Emission → List ℕ
-emission_numbers (emission.Emitted cells i o d) = 0 ∷ 0 ∷ cells ∷ i ∷ o ∷ d ∷ []
-emission_numbers (emission.Refused n p) = n ∷ p ∷ 0 ∷ 0 ∷ 0 ∷ 0 ∷ []
-
-abbrev pub compiled_numbers : Compiled → List ℕ
-compiled_numbers c = emission_numbers c.emission ++ c.wires
+-- Its 22 numbers: refusal number, place, cells, i, o, the done wire, and 16 output wires.
+abbrev pub compiled_numbers : Result Compiled Refusal → List ℕ
+compiled_numbers (Ok c) = 0 ∷ 0 ∷ c.cells ∷ c.ins ∷ c.outs ∷ c.done ∷ c.wires
+compiled_numbers (Err r) = refusal_numbers r ++ replicate 20 0

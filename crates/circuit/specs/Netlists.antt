@@ -1,9 +1,9 @@
 -- Netlists: the refusals 12 to 16 of a netlist, in their order and with their places. Definitions only.
 -- docs/READING.md: "Refusal numbers". Read after: `Cells`, meaning's `Checks`. Assumes nothing.
-use Rattle.std.specs.Prelude.{ℕ, ◌%◌, ◌^◌, ◌*◌, Bool, true, List, eqb, ltb, leb, length}
-use Rattle.meaning.specs.declared.Verdict.{Verdict}
-use Rattle.meaning.specs.declared.Verdict.TheVariants as verdict
+use Rattle.std.specs.Prelude.{ℕ, ◌%◌, ◌^◌, ◌*◌, Bool, true, List, eqb, ltb, leb, length, Err}
+use Rattle.meaning.specs.declared.Cause.TheVariants as cause
 use Rattle.meaning.specs.Choices.{pick, and, or, not}
+use Rattle.meaning.specs.Refusals.{Check, Verdict, passed, refused}
 use Rattle.meaning.specs.Checks.{width_fits, first_refusal}
 use Rattle.circuit.specs.declared.Port.{Port}
 use Rattle.circuit.specs.declared.Port.TheVariants as port
@@ -50,18 +50,24 @@ all_ports test net n =
     (and (test (ports_of (kind_at net n)).y (cell_number net n 2))
     (test (ports_of (kind_at net n)).z (cell_number net n 3)))
 
--- The first refusal of 13 to 16 that cell n gives, or 0 where it gives none.
-unfoldable pub cell_refusal : ℕ → List ℕ → ℕ → ℕ
+-- 13 to 16 of cell n: the first that it fails.
+unfoldable pub cell_refusal : ℕ → List ℕ → ℕ → Check
 cell_refusal w net n =
     pick (or (bit_kind (kind_at net n)) (word_kind (kind_at net n)))
     (pick (all_ports (number_fits w) net n)
     (pick (all_ports (wire_fits n (cell_count net)) net n)
     (pick (all_ports (sort_fits net) net n)
-    0 16) 15) 14) 13
+    passed
+    (Err cause.WireSort))
+    (Err cause.CellWire))
+    (Err cause.CellNumber))
+    (Err cause.CellKind)
 
 -- 1, then 12 to 16, cell by cell, lowest first.
 unfoldable pub netlist_verdict : ℕ → List ℕ → Verdict
 netlist_verdict w net =
     pick (width_fits w)
-    (pick (netlist_fits net) (first_refusal (cell_refusal w net) (cell_count net) 0 verdict.Accepted) (verdict.Refused 12 0))
-    (verdict.Refused 1 0)
+    (pick (netlist_fits net)
+    (first_refusal (cell_refusal w net) (cell_count net) 0 passed)
+    (refused cause.NetlistLength 0))
+    (refused cause.Width 0)

@@ -29,10 +29,10 @@ Named k kind.Field = Other k × (k < 13)
 Named k kind.Binary = (13 ≤ k) × (k < 20)
 Named k kind.Unary = 20 ≤ k
 
-differs : (k n : ℕ) → eqb k n ≡ false → k ≡ n → ⊥
+pub differs : (k n : ℕ) → eqb k n ≡ false → k ≡ n → ⊥
 differs k n h e = clash _ (eq-eqb k n e) h
 
-past : (k n : ℕ) → ltb k n ≡ false → n ≤ k
+pub past : (k n : ℕ) → ltb k n ≡ false → n ≤ k
 past k n h = elim (split k n) [ inl l ↦ clash _ (lt-ltb k n l) h | inr l ↦ l ]
 
 kind-names : (k : ℕ) → Named k (kind_named k)
