@@ -3,9 +3,12 @@
 // docs/READING.md: "Cells".
 ghost use Rattle.std.specs.Prelude.{◌≡◌, [], ◌∷◌, ◌+◌};
 ghost use Rattle.circuit.specs.Cells.{cell};
+ghost use Rattle.circuit.specs.Gates.{cell_of};
 ghost use Rattle.circuit.specs.Pieces.{«rise»};
 ghost use Rattle.circuit.specs.Compiling.{«front»};
 ghost use Rattle.pieces.specs.Writing.{written, Room, gates_on, ending_on};
+
+use circuit::Cell;
 
 // A number as one that can index.
 pub fn wide(x: u32) -> usize
@@ -25,6 +28,16 @@ pub fn put(netlist: &mut [u32], at: u32, kind: u32, x: u32, y: u32, z: u32)
     netlist[i + 1] = x;
     netlist[i + 2] = y;
     netlist[i + 3] = z;
+}
+
+// Writes one cell, given as a value.
+pub fn place(netlist: &mut [u32], at: u32, cell: Cell)
+    requires { Room netlist.old at 1 }
+    ensures { netlist.new
+        ≡ written netlist.old at (cell_of cell ∷ []) }
+{
+    let [kind, x, y, z] = cell.numbers();
+    put(netlist, at, kind, x, y, z);
 }
 
 // The three cells that see `done` rise.
