@@ -82,10 +82,8 @@ pub fn scanned(width: u32, table: &[u32]) -> Result<[Known; 256], Refusal>
 {
     let mut terms = [NOTHING_KNOWN; 256];
     for k in 0..table.len() / 4 {
-        terms[k] = judged(width, table, k, &terms).map_err(|cause| Refusal {
-            cause,
-            place: k as u32,
-        })?;
+        let place = k as u32;
+        terms[k] = judged(width, table, k, &terms).map_err(|cause| Refusal { cause, place })?;
     }
     Ok(terms)
 }

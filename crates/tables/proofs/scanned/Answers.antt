@@ -14,7 +14,7 @@ pub returns-in_err-terms : goal.returns-in_err-terms
 returns-in_err-terms c =
     let p = err_from_is_err_and c.from_residual.result c.from_residual.ensures.1 in
     let r = c.in_err-terms.field-0.0 in
-    let place : r.place ≡ c.loop-k.k-counter = search rules in
+    let place : r.place ≡ c.loop-k.k = search rules in
     let cause : c.judged.result ≡ Err r.cause = search rules in
     rw (p.1, p.2) (refuses c.loop-k.invariant (omega arith) r place (sym c.judged.ensures ∙ cause))
 
