@@ -5,5 +5,5 @@ pub mod Ports
 pub mod Gates
 pub mod Passed
 pub mod Wires
-pub mod Names
+pub mod Places
 pub mod Unique
