@@ -1,7 +1,7 @@
-// Netlists as values: the cells that the compiler writes and its answer, what a cell's kind is, and
-// what its numbers are for. How netlists are emitted, clocked and judged, and the promise about them
-// is in `specs/`. What is shown of blocks, checks and clock is in `proofs/`; the crate `promise` has
-// the theorems. docs/READING.md: "Cells".
+// Netlists as values: the cells that the compiler writes and its answer, what a cell's kind does,
+// and what its numbers are for. How netlists are emitted, clocked and judged, and the promise about
+// them is in `specs/`. What is shown of blocks, checks and clock is in `proofs/`; the crate
+// `promise` has the theorems. docs/READING.md: "Cells".
 #![tactic(auto)]
 
 ghost use Rattle.std.specs.Prelude.{◌≡◌, [], ◌∷◌};
@@ -88,11 +88,8 @@ impl From<u32> for Gate {
             10 => Gate::WordRegister,
             11 => Gate::Choice,
             12 => Gate::Copy,
-            _ => if number < 20 {
-                Gate::Binary
-            } else {
-                Gate::Unary
-            },
+            _ if number < 20 => Gate::Binary,
+            _ => Gate::Unary,
         }
     }
 }
@@ -114,8 +111,8 @@ pub enum Port {
     LaterWord,
 }
 
-// The compiler's answer: how many cells, input words and output words, the done wire, and the output
-// wires, those past their count 0.
+// The compiler's answer: how many cells, input words and output words, the done wire, and the
+// output wires, those past their count 0.
 #[derive(Clone, Copy, Debug, PartialEq, Eq)]
 pub struct Compiled {
     pub cells: u32,

@@ -1,13 +1,13 @@
-// The values that the parts share: why a call is refused, what a kind makes of a term, what is known
-// of a term, and the evaluator's answer. The definitions are in `specs/`, the laws about them in
-// `proofs/`; `specs/Answers.antt` gives each answer's numbers.
+// The values that the parts share: why a call is refused, what a kind makes of a term, what is
+// known of a term, and the evaluator's answer. The definitions are in `specs/`, the laws about them
+// in `proofs/`; `specs/Answers.antt` gives each answer's numbers.
 #![tactic(auto)]
 
 ghost use Rattle.std.specs.Prelude.{◌≡◌};
 ghost use Rattle.meaning.specs.Refusals.{cause_number, refusal};
 ghost use Rattle.meaning.specs.Kinds.{kind_named};
 
-// Why a call is refused; each cause has the number that docs/READING.md, "Refusal numbers", gives it.
+// Why a call is refused, with the number of the refusal. docs/READING.md: "Refusal numbers".
 #[derive(Clone, Copy, Debug, PartialEq, Eq)]
 pub enum Cause {
     Width = 1,
@@ -57,8 +57,8 @@ impl From<Cause> for Refusal {
     }
 }
 
-// What a term of a kind does: one of the four combinators, or a leaf, which gives a constant, one of
-// its words, or an operation on two words or one.
+// What a term of a kind does: one of the four combinators, or a leaf, which gives a constant, one
+// of its words, or an operation on two words or one.
 #[derive(Clone, Copy, Debug, PartialEq, Eq)]
 pub enum Kind {
     Seq,
@@ -82,13 +82,9 @@ impl From<u32> for Kind {
             3 => Kind::Ite,
             4 => Kind::Rec,
             9 => Kind::Const,
-            _ => if number < 13 {
-                Kind::Field
-            } else if number < 20 {
-                Kind::Binary
-            } else {
-                Kind::Unary
-            },
+            _ if number < 13 => Kind::Field,
+            _ if number < 20 => Kind::Binary,
+            _ => Kind::Unary,
         }
     }
 }

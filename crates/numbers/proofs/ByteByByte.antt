@@ -1,91 +1,60 @@
--- Law: how a list of numbers is read byte by byte, what an array holds of it, and that too many numbers stay too many.
--- `store` and `Underway` cite it. Assumes nothing.
-use Prim.Native.Nat.{ℕ, suc, ◌+◌, ◌-◌, ◌^◌, ◌≤◌, ◌<◌}
-use mathlib.Core.Path.{◌≡◌, refl, sym, ap, ◌∙◌}
-use mathlib.Core.Bool.{true, false}
-use mathlib.Core.List.{List, [], ◌∷◌, ◌++◌}
-use native.Mathlib.Omega.{arith}
-use lib.Dec.{ltb, leb}
-use lib.ListN.{length, set, take, replicate, length-append}
-use lib.Seq.{append_snoc, set-append_seam, take-append_seam}
-use borrow.Author.Tests.{leb-true, lt-ltb, le-ltb, le-leb, lt-leb}
+-- Law: how a list of numbers is read byte by byte, that too many numbers stay too many, and what is listed with one more.
+-- `close` and `Underway` cite it. Assumes nothing.
+use Rattle.std.proofs.Common.{◌≡◌, ℕ, suc, ◌+◌, ◌-◌, ◌^◌, ◌≤◌, ◌<◌, ◌⊎◌, List, [], ◌∷◌, ◌++◌, length, set, replicate, ltb}
+use Rattle.std.proofs.Common.{Option, Some, None, refl, sym, arith, length-append}
+use Rattle.std.proofs.Math.Seq.{append_snoc, set-append_seam}
+use Rattle.std.proofs.lemmas.Bool.Decides.{nat_tests}
+use borrow.Author.Tests.{lt-ltb, le-ltb, le-leb, lt-leb}
+use mathlib.Core.Logic.{⊎_elim}
 use Rattle.meaning.specs.Choices.{padded}
-use Rattle.meaning.proofs.Tests.{by-test, both}
-use Rattle.numbers.specs.Lists.{is_digit, is_gap, Progress, progress, closed, after_gap, grown, after_digit, Result, numbers, not_numbers, read_from, limited, Holds}
+use Rattle.meaning.proofs.Tests.{by-test}
+use Rattle.numbers.specs.declared.Listed.{Listed}
+use Rattle.numbers.specs.Lists.{is_digit, is_gap, Progress, closed, after_gap, grown, after_digit, read_from, limited, Holds}
 
 -- One byte.
 module _ (c : ℕ) (l : List ℕ) (p : Progress) where
-  pub read-digit : is_digit c ≡ true → grown p.value c < 2 ^ 32 → read_from (c ∷ l) p ≡ read_from l (after_digit c p)
+  pub read-digit : 48 ≤ c → c ≤ 57 → grown p.current c < 2 ^ 32 → read_from (c ∷ l) p ≡ read_from l (after_digit c p)
   unfolding read_from
-  read-digit d h = rw (d, lt-ltb _ _ h) refl
+  read-digit a b h = rw (le-leb 48 c a, le-leb c 57 b, lt-ltb _ _ h) refl
 
-  pub read-large : is_digit c ≡ true → 2 ^ 32 ≤ grown p.value c → read_from (c ∷ l) p ≡ not_numbers
+  pub read-large : 48 ≤ c → c ≤ 57 → 2 ^ 32 ≤ grown p.current c → read_from (c ∷ l) p ≡ None
   unfolding read_from
-  read-large d h = rw (d, le-ltb _ _ h) refl
+  read-large a b h = rw (le-leb 48 c a, le-leb c 57 b, le-ltb _ _ h) refl
 
-  pub read-gap : is_digit c ≡ false → is_gap c ≡ true → read_from (c ∷ l) p ≡ read_from l (after_gap p)
+  pub read-gap : (c ≡ 10) ⊎ (c ≡ 32) → read_from (c ∷ l) p ≡ read_from l (after_gap p)
   unfolding read_from
-  read-gap d g = rw (d, g) refl
+  read-gap g = ⊎_elim (λ e. rw e refl) (λ e. rw e refl) g
 
-  pub read-other : is_digit c ≡ false → is_gap c ≡ false → read_from (c ∷ l) p ≡ not_numbers
+  pub read-other : (48 ≤ c → 57 < c) → ((c ≡ 10) ⊎ (c ≡ 32) → ⊥) → read_from (c ∷ l) p ≡ None
   unfolding read_from
-  read-other d g = rw (d, g) refl
-
-pub digit-least : (c : ℕ) → is_digit c ≡ true → 48 ≤ c
-digit-least c d = leb-true 48 c (both (leb 48 c) (leb c 57) d).0
-
--- The end of the text.
-pub read-end : (p : Progress) → read_from [] p ≡ numbers (closed p)
-unfolding read_from
-read-end p = refl
+  read-other a b = grind (arith, nat_tests)
 
 -- Too many numbers stay too many.
-closed-longer : (p : Progress) → length p.ended ≤ length (closed p)
-closed-longer p = by-test (λ (l : List ℕ). length p.ended ≤ length l) p.inside (p.ended ++ (p.value ∷ [])) p.ended
-    (λ e. simp length-append (omega arith)) (λ e. omega arith)
-
-pub over : (ns : List ℕ) → 1025 < length ns → limited (numbers ns) ≡ not_numbers
+pub over : (ns : List ℕ) → 1025 < length ns → limited (Some ns) ≡ None
 over ns h = rw (lt-leb (length ns) 1025 h, le-leb 1 (length ns) (omega arith)) refl
 
-pub too_many : (l : List ℕ) (p : Progress) → 1025 < length p.ended → limited (read_from l p) ≡ not_numbers
+pub too_many : (l : List ℕ) (p : Progress) → 1025 < length p.ended → limited (read_from l p) ≡ None
 unfolding read_from
-too_many [] p h = over (closed p) (omega (arith, closed-longer p))
+too_many [] p h = over (closed p) (simp length-append (omega arith))
 too_many (c ∷ l) p h =
-    by-test (λ (r : Result). limited r ≡ not_numbers) (is_digit c) _ _
-    (λ d. by-test (λ (r : Result). limited r ≡ not_numbers) (ltb (grown p.value c) (2 ^ 32)) _ _ (λ u. too_many l (after_digit c p) h)
-    (λ u. refl))
-    (λ d. by-test (λ (r : Result). limited r ≡ not_numbers) (is_gap c) _ _
-    (λ g. too_many l (after_gap p) (omega (arith, closed-longer p))) (λ g. refl))
+    by-test (λ (r : Option (List ℕ)). limited r ≡ None) (is_digit c) _ _
+    (λ d. by-test (λ (r : Option (List ℕ)). limited r ≡ None) (ltb (grown p.current c) (2 ^ 32)) _ _
+    (λ u. too_many l (after_digit c p) h) (λ u. refl))
+    (λ d. by-test (λ (r : Option (List ℕ)). limited r ≡ None) (is_gap c) _ _
+    (λ g. too_many l (after_gap p) (simp length-append (omega arith))) (λ g. refl))
 
 -- An array with one number more.
 zeros-more : (k n : ℕ) → k < n → replicate {A = ℕ} (n - k) 0 ≡ 0 ∷ replicate (n - suc k) 0
 zeros-more k n h = let e : n - k ≡ suc (n - suc k) = omega arith in rw e refl
 
-pub padded-more : (ns : List ℕ) (v : ℕ) → length ns < 1025 → set (padded 1025 ns) (length ns) v ≡ padded 1025 (ns ++ (v ∷ []))
+padded-more : (ns : List ℕ) (v : ℕ) → length ns < 1025 → set (padded 1025 ns) (length ns) v ≡ padded 1025 (ns ++ (v ∷ []))
 padded-more ns v h =
     let e : length (ns ++ (v ∷ [])) ≡ suc (length ns) = simp length-append (omega arith) in
     rw (zeros-more (length ns) 1025 h, set-append_seam ns 0 (replicate (1025 - suc (length ns)) 0) v, e) (sym (append_snoc ns v _))
 
--- What an array holds can be read back from it.
-pub taken : {ns array : List ℕ} {k : ℕ} → Holds ns k array → k ≤ 1025 → take k array ≡ ns
-taken {ns} {array} {k} p h = rw (p.held h, p.counted) (take-append_seam ns _)
-
-pub holds-none : Holds [] 0 (replicate 1025 0)
-holds-none = record { counted = refl; held = λ h. refl }
-
--- Storing: no number ends here, or one does, and the array has room for it or not.
-pub store-none : (v : ℕ) {ns array : List ℕ} {k : ℕ} → Holds ns k array → Holds (closed (progress ns false v)) k array
-store-none v p = p
-
-pub store-one : (v : ℕ) {ns array : List ℕ} {k : ℕ} → k < 1025 → Holds ns k array → Holds (closed (progress ns true v)) (k + 1) (set
-    array k v)
-store-one v {ns} {array} {k} h p = record {
-  counted = ap (λ (n : ℕ). n + 1) p.counted ∙ sym (length-append ns (v ∷ []));
-  held = λ u. rw (p.held (omega arith), p.counted) (padded-more ns v (omega (arith, p.counted)));
-}
-
-pub store-over : (v : ℕ) {ns array after : List ℕ} {k : ℕ} → 1025 ≤ k → Holds ns k array → Holds (closed (progress ns true v)) (k + 1) after
-store-over v {ns} h p = record {
-  counted = ap (λ (n : ℕ). n + 1) p.counted ∙ sym (length-append ns (v ∷ []));
-  held = λ u. absurd (omega arith);
-}
+pub holds_more : (ns : List ℕ) (v : ℕ) {L : Listed} → L.count < 1025 → Holds ns L →
+    Holds (ns ++ (v ∷ [])) (record { count = L.count + 1; numbers = set L.numbers L.count v })
+holds_more ns v {L} h p =
+    let h : length ns < 1025 = rw p.held at h in
+    let e : length ns + 1 ≡ length (ns ++ (v ∷ [])) = simp length-append in
+    rw p.held (record { few = omega (arith, e); held = rw (padded-more ns v h, e) refl })

@@ -1,111 +1,94 @@
--- Law: the reader's loop. At byte j, what is left to read, with what the array holds, gives what the whole text gives.
+-- Law: the reader's loop. At byte j, what is left to read, with what is listed, gives what the whole text gives.
 -- `read` cites it. Assumes nothing.
-use Prim.Native.Nat.{ℕ, ◌+◌, ◌^◌, ◌≤◌, ◌<◌}
-use mathlib.Core.Path.{◌≡◌, refl, sym, ap, ◌∙◌}
-use mathlib.Core.Bool.{Bool, true, false}
-use mathlib.Core.List.{List, ◌∷◌}
-use native.Mathlib.Numerals.{add-one}
-use native.Mathlib.Omega.{arith}
-use lib.ListN.{length, get_or, take, drop, replicate}
-use lib.Seq.{drop-cons, drop-length}
+use Rattle.std.proofs.Common.{◌≡◌, ℕ, ◌+◌, ◌^◌, ◌≤◌, ◌<◌, ◌⊎◌, List, [], ◌∷◌, length, get_or, drop, Option, Some, None}
+use Rattle.std.proofs.Common.{refl, sym, ap, ◌∙◌, arith}
+use Rattle.std.specs.Option.{option_map}
+use Rattle.std.proofs.lemmas.List.{at_drop_more, at_drop_all}
 use borrow.Author.Tests.{le-leb, lt-leb}
-use Rattle.numbers.specs.declared.Reading.TheVariants as reading
-use Rattle.numbers.specs.Lists.{is_digit, is_gap, progress, begun, closed, grown, numbers, not_numbers, read_from, limited, numbers_in, listed_as, listed_in, Holds}
-use Rattle.numbers.proofs.ByteByByte.{read-digit, read-large, read-gap, read-other, read-end, over, too_many, taken, holds-none}
+use Rattle.numbers.specs.declared.Listed.{Listed}
+use Rattle.numbers.specs.Lists.{progress, closed, grown, read_from, limited, numbers_in, listed_as, listed_in, Holds}
+use Rattle.numbers.proofs.ByteByByte.{read-digit, read-large, read-gap, read-other, over, too_many}
+
+-- What comes of what is read, and of the bytes that are left.
+abbrev pub allowed : Option (List ℕ) → Option Listed
+allowed r = option_map listed_as (limited r)
+
+abbrev pub answer : List ℕ → Option ℕ → List ℕ → Option Listed
+answer ended current l = allowed (read_from l (progress ended current))
 
 -- The loop's invariant.
-pub record Underway (bytes array : List ℕ) (count : ℕ) (inside : Bool) (value j : ℕ) : Type 0 where
-  pub within : j ≤ length bytes
-  pub few : count ≤ 1025
-  pub holds : Holds (take count array) count array
-  pub same : limited (read_from (drop j bytes) (progress (take count array) inside value)) ≡ limited (read_from bytes begun)
+pub record Underway (bytes : List ℕ) (listed : Listed) (current : Option ℕ) (j : ℕ) : Type 0 where
+  pub ended : List ℕ
+  pub holds : Holds ended listed
+  pub same : answer ended current (drop j bytes) ≡ listed_in bytes
 
-pub underway-none : (bytes : List ℕ) → Underway bytes (replicate 1025 0) 0 false 0 0
-underway-none bytes = record { within = omega arith; few = omega arith; holds = holds-none; same = refl }
-
--- What the contract of `store` says.
-abbrev Stores : List ℕ → ℕ → Bool → ℕ → ℕ → List ℕ → Type 0
-Stores array count inside value more after = (ns : List ℕ) → Holds ns count array → Holds (closed (progress ns inside value)) more after
-
-module _ {bytes array : List ℕ} {count value j : ℕ} {inside : Bool} (u : Underway bytes array count inside value j) where
-  -- A byte more.
-  module _ (h : j < length bytes) where
-    next : drop j bytes ≡ get_or bytes j 0 ∷ drop (j + 1) bytes
-    next = rw (add-one j) (drop-cons bytes j 0 h)
-
-    goes : limited (read_from (get_or bytes j 0 ∷ drop (j + 1) bytes) (progress (take count array) inside value)) ≡ limited (read_from
-        bytes begun)
-    goes = rw next at u.same
-
-    pub digit-on : is_digit (get_or bytes j 0) ≡ true → grown value (get_or bytes j 0) < 2 ^ 32 →
-        Underway bytes array count true (grown value (get_or bytes j 0)) (j + 1)
-    digit-on d l = record {
-      within = omega arith;
-      few = u.few;
-      holds = u.holds;
-      same = ap limited (sym (read-digit _ _ _ d l)) ∙ goes;
-    }
-
-    pub digit-large : is_digit (get_or bytes j 0) ≡ true → 2 ^ 32 ≤ grown value (get_or bytes j 0) →
-        limited (read_from bytes begun) ≡ not_numbers
-    digit-large d l = sym goes ∙ ap limited (read-large _ _ _ d l)
-
-    module _ (d : is_digit (get_or bytes j 0) ≡ false) where
-      pub other_byte : is_gap (get_or bytes j 0) ≡ false → limited (read_from bytes begun) ≡ not_numbers
-      other_byte g = sym goes ∙ ap limited (read-other _ _ _ d g)
-
-      module _ (g : is_gap (get_or bytes j 0) ≡ true) (more : ℕ) (after : List ℕ) (s : Stores array count inside value more after) where
-        stored : Holds (closed (progress (take count array) inside value)) more after
-        stored = s (take count array) u.holds
-
-        went : limited (read_from (drop (j + 1) bytes) (progress (closed (progress (take count array) inside value)) false 0)) ≡ limited
-            (read_from bytes begun)
-        went = ap limited (sym (read-gap _ _ _ d g)) ∙ goes
-
-        pub gap-over : 1025 < more → limited (read_from bytes begun) ≡ not_numbers
-        gap-over l = sym went ∙ too_many _ _ (rw stored.counted at l)
-
-        pub gap-on : more ≤ 1025 → Underway bytes after more false 0 (j + 1)
-        gap-on l = record {
-          within = omega arith;
-          few = l;
-          holds = rw (taken stored l) stored;
-          same = rw (taken stored l) went;
-        }
-
-  -- The end of the text.
-  module _ (h : length bytes ≤ j) (more : ℕ) (after : List ℕ) (s : Stores array count inside value more after) where
-    all : Holds (closed (progress (take count array) inside value)) more after
-    all = s (take count array) u.holds
-
-    ended : limited (numbers (closed (progress (take count array) inside value))) ≡ limited (read_from bytes begun)
-    ended =
-        let e : j ≡ length bytes = omega (arith, u.within) in
-        ap limited (sym (read-end _)) ∙ (rw (e, drop-length bytes) at u.same)
-
-    pub end-over : 1025 < more → limited (read_from bytes begun) ≡ not_numbers
-    end-over l = sym ended ∙ over (closed (progress (take count array) inside value)) (rw all.counted at l)
-
-    pub end_none : more ≡ 0 → limited (read_from bytes begun) ≡ not_numbers
-    end_none l = sym ended ∙ rw (lt-leb 1 (length (closed (progress (take count array) inside value))) (omega (arith, all.counted))) refl
-
-    pub end_list : 1 ≤ more → more ≤ 1025 → record { reading = reading.Numbers more; numbers = after } ≡ listed_as (limited (read_from
-        bytes begun))
-    end_list l m =
-        let ns = closed (progress (take count array) inside value) in
-        let a = le-leb 1 (length ns) (omega (arith, all.counted)) in
-        let b = le-leb (length ns) 1025 (omega (arith, all.counted)) in
-        rw (← ended, a, b, all.counted, all.held m) refl
-
--- What a text of at most 16,384 bytes gives, and a longer one.
-pub in-limit : (bytes : List ℕ) → length bytes ≤ 16384 → listed_as (limited (read_from bytes begun)) ≡ listed_in bytes
-unfolding listed_in numbers_in
-in-limit bytes h = rw (le-leb (length bytes) 16384 h) refl
-
-pub no-numbers : (bytes : List ℕ) → length bytes ≤ 16384 → limited (read_from bytes begun) ≡ not_numbers → listed_as not_numbers ≡ listed_in
-    bytes
-no-numbers bytes h e = ap listed_as (sym e) ∙ in-limit bytes h
-
-pub past-limit : (bytes : List ℕ) → 16384 < length bytes → listed_as not_numbers ≡ listed_in bytes
+-- The texts that are too long, and the others at their start.
+pub past-limit : (bytes : List ℕ) → 16384 < length bytes → None ≡ listed_in bytes
 unfolding listed_in numbers_in
 past-limit bytes h = rw (lt-leb (length bytes) 16384 h) refl
+
+pub underway-none : (bytes : List ℕ) → length bytes ≤ 16384 → Underway bytes (listed_as []) None 0
+unfolding listed_in numbers_in
+underway-none bytes h = record {
+  ended = [];
+  holds = record { few = omega arith; held = refl };
+  same = rw (le-leb (length bytes) 16384 h) refl;
+}
+
+module _ {bytes : List ℕ} {listed : Listed} {current : Option ℕ} {j : ℕ} (u : Underway bytes listed current j) where
+  -- The numbers, if one ends at byte j.
+  abbrev pub ending : List ℕ
+  ending = closed (progress u.ended current)
+
+  -- A byte more.
+  module _ (h : j < length bytes) where
+    goes : answer u.ended current (get_or bytes j 0 ∷ drop (j + 1) bytes) ≡ listed_in bytes
+    goes = sym (at_drop_more (answer u.ended current) bytes j 0 h) ∙ u.same
+
+    module _ (a : 48 ≤ get_or bytes j 0) (b : get_or bytes j 0 ≤ 57) where
+      pub digit-on : grown current (get_or bytes j 0) < 2 ^ 32 → Underway bytes listed (Some (grown current (get_or bytes j 0))) (j + 1)
+      digit-on l = record {
+        ended = u.ended;
+        holds = u.holds;
+        same = ap allowed (sym (read-digit _ _ _ a b l)) ∙ goes;
+      }
+
+      pub digit-large : 2 ^ 32 ≤ grown current (get_or bytes j 0) → None ≡ listed_in bytes
+      digit-large l = ap allowed (sym (read-large _ _ _ a b l)) ∙ goes
+
+    pub other_byte : (48 ≤ get_or bytes j 0 → 57 < get_or bytes j 0) → ((get_or bytes j 0 ≡ 10) ⊎ (get_or bytes j 0 ≡ 32) → ⊥) →
+        None ≡ listed_in bytes
+    other_byte a b = ap allowed (sym (read-other _ _ _ a b)) ∙ goes
+
+    module _ (g : (get_or bytes j 0 ≡ 10) ⊎ (get_or bytes j 0 ≡ 32)) where
+      went : answer ending None (drop (j + 1) bytes) ≡ listed_in bytes
+      went = ap allowed (sym (read-gap _ _ _ g)) ∙ goes
+
+      pub gap-over : 1025 < length ending → None ≡ listed_in bytes
+      gap-over l = ap (option_map listed_as) (sym (too_many _ _ l)) ∙ went
+
+      pub gap-on : {after : Listed} → Holds ending after → Underway bytes after None (j + 1)
+      gap-on p = record { ended = ending; holds = p; same = went }
+
+  -- The end of the text.
+  module _ (h : length bytes ≤ j) where
+    ended_so : allowed (Some ending) ≡ listed_in bytes
+    unfolding read_from
+    ended_so = sym (at_drop_all (answer u.ended current) bytes j h) ∙ u.same
+
+    pub end-over : 1025 < length ending → None ≡ listed_in bytes
+    end-over l = ap (option_map listed_as) (sym (over ending l)) ∙ ended_so
+
+    module _ {after : Listed} (p : Holds ending after) where
+      counted : after.count ≡ length ending
+      counted = ap (λ (x : Listed). x.count) p.held
+
+      pub end_none : after.count ≡ 0 → None ≡ listed_in bytes
+      end_none e =
+          let l : length ending < 1 = omega (arith, counted) in
+          rw (lt-leb 1 (length ending) l) at ended_so
+
+      pub end_list : 1 ≤ after.count → Some after ≡ listed_in bytes
+      end_list e =
+          let l : 1 ≤ length ending = omega (arith, counted) in
+          rw p.held (rw (le-leb 1 (length ending) l, le-leb (length ending) 1025 p.few) at ended_so)

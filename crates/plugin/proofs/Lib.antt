@@ -1,3 +1,2 @@
--- What the proofs of several functions cite, and what follows from the contracts.
-pub mod Filled
+-- What follows from the contracts.
 pub mod Unique

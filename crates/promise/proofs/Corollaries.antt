@@ -6,7 +6,7 @@ use mathlib.Core.List.{List}
 use mathlib.Core.Logic.{inl, inr}
 use native.Mathlib.Omega.{arith}
 use borrow.Author.Tests.{not-true}
-use Rattle.meaning.specs.declared.Verdict.TheVariants as verdict
+use Rattle.meaning.specs.Refusals.{passed}
 use Rattle.meaning.specs.Choices.{and, not}
 use Rattle.meaning.specs.Words.{Words}
 use Rattle.meaning.specs.Terms.{Term, main_of}
@@ -109,7 +109,7 @@ module _ (w : ℕ) (T : Term) (load d : Bits) (x y : Wires) (P : Promise (evalua
     rises-once = by_result (evaluate w T (k - t) (x t)) refl
 
 -- Two runs of one table's circuit that differ in their starting words.
-module _ (w : ℕ) (t : List ℕ) (ok : verdict_of w t ≡ verdict.Accepted) (starts starts' : ℕ → ℕ) (load : Bits) (inputs : Wires)
+module _ (w : ℕ) (t : List ℕ) (ok : verdict_of w t ≡ passed) (starts starts' : ℕ → ℕ) (load : Bits) (inputs : Wires)
     (fit : (k : ℕ) → words_fit w (ins (main_of t)) (inputs k) ≡ true) where
   pub starts-done : (k : ℕ) → done_of w starts (main_of t) load inputs k ≡ done_of w starts' (main_of t) load inputs k
   starts-done =

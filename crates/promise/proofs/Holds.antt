@@ -9,7 +9,7 @@ use lib.Dec.{eqb}
 use lib.Pow.{pow_pos}
 use lib.ListN.{length}
 use borrow.Author.Tests.{eqb-true, le-leb, eq-eqb}
-use Rattle.meaning.specs.declared.Verdict.TheVariants as verdict
+use Rattle.meaning.specs.Refusals.{passed}
 use Rattle.meaning.specs.Choices.{at, all_below}
 use Rattle.meaning.specs.Words.{Words}
 use Rattle.meaning.specs.Terms.{Term, main_of}
@@ -44,7 +44,7 @@ use Rattle.circuit.proofs.PassBranches.{main-fine, whole-passes}
 use Rattle.circuit.proofs.InRange.{in-range}
 use Rattle.circuit.proofs.Simulates.{names-given, word-kind, wire-in-range}
 
-module _ (w : ℕ) (t : List ℕ) (ok : verdict_of w t ≡ verdict.Accepted) where
+module _ (w : ℕ) (t : List ℕ) (ok : verdict_of w t ≡ passed) where
   abbrev main : Term
   main = main_of t
 
@@ -91,7 +91,7 @@ module _ (w : ℕ) (t : List ℕ) (ok : verdict_of w t ≡ verdict.Accepted) whe
         cells = λ n i. more_given few-given.1 (cells-pass n i);
       }
 
-  pub netlist-accepted : netlist_verdict w net ≡ verdict.Accepted
+  pub netlist-accepted : netlist_verdict w net ≡ passed
   netlist-accepted = checking w net netlist-checked
 
   -- So no cell but a register depends on its own wire or a later one: there are no combinational loops.
@@ -143,7 +143,7 @@ module _ (w : ℕ) (t : List ℕ) (ok : verdict_of w t ≡ verdict.Accepted) whe
     given-named : (n : ℕ) → n ≤ cell_count net → inputs_given net (ins main) n ≡ true
     given-named = names-given net (ins main) (λ n l e. input-given (cells-pass n l) e)
 
-    inputs-accepted : (k : ℕ) → inputs_verdict w net (inputs k) ≡ verdict.Accepted
+    inputs-accepted : (k : ℕ) → inputs_verdict w net (inputs k) ≡ passed
     inputs-accepted k = rw (
       input-count k,
       le-leb (ins main) 16 few-given.1,
@@ -151,18 +151,18 @@ module _ (w : ℕ) (t : List ℕ) (ok : verdict_of w t ≡ verdict.Accepted) whe
       (fit_parts k).1,
     )
 
-    pub power-up-accepted : power_up_verdict w net (inputs 0) (cell_count net) ≡ verdict.Accepted
+    pub power-up-accepted : power_up_verdict w net (inputs 0) (cell_count net) ≡ passed
     unfolding power_up_verdict
     power-up-accepted = rw (netlist-accepted, eq-eqb (cell_count net) _ refl, inputs-accepted 0)
 
     module _ (small : (n : ℕ) → starts n < 2 ^ w) where
-      none-refuses : (k n : ℕ) → n < cell_count net → wire_refusal w net (wires w starts net load inputs k) n ≡ 0
+      none-refuses : (k n : ℕ) → n < cell_count net → wire_refusal w net (wires w starts net load inputs k) n ≡ passed
       none-refuses k n l =
           wire-in-range w net netlist-accepted (wires w starts net load inputs k) n l
           (in-range w net netlist-checked starts small load inputs input-below k n l)
 
       pub step-accepted : (k : ℕ) → step_verdict w net (wires w starts net load inputs k) (inputs (suc k))
-          (cell_count net) ≡ verdict.Accepted
+          (cell_count net) ≡ passed
       unfolding step_verdict
       step-accepted k = rw (
         netlist-accepted,

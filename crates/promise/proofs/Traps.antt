@@ -5,7 +5,8 @@ use mathlib.Core.Path.{◌≡◌, refl, ap}
 use mathlib.Core.Bool.{true, false}
 use mathlib.Core.List.{List, [], ◌∷◌}
 use native.Mathlib.Omega.{arith}
-use Rattle.meaning.specs.declared.Verdict.TheVariants as verdict
+use Rattle.meaning.specs.Refusals.{passed, refused}
+use Rattle.meaning.specs.declared.Cause.TheVariants as cause
 use Rattle.meaning.specs.Choices.{bit, at}
 use Rattle.meaning.specs.Words.{Words, binary, unary}
 use Rattle.meaning.specs.Terms.{Term, leaf, seq, ite, rec}
@@ -86,7 +87,7 @@ loop = rec first first complement
 abbrev looped_cells : List Cell
 looped_cells = replaced (whole_cells loop) 8 (copy_cell 29)
 
-looped-refused : netlist_verdict 8 (numbers_of looped_cells) ≡ verdict.Refused 15 8
+looped-refused : netlist_verdict 8 (numbers_of looped_cells) ≡ refused cause.CellWire 8
 unfolding netlist_verdict first_refusal cell_refusal ports_of
 looped-refused = refl
 
@@ -131,7 +132,7 @@ once_cells =
     not_cell 6 ∷ word_register 14 ∷
     cell 20 1 0 0 ∷ low_register 11 ∷ or_cell 6 10 ∷ not_cell 10 ∷ and_cell 6 12 ∷ choice_cell 13 9 8 ∷ []
 
-once-accepted : netlist_verdict 8 (numbers_of once_cells) ≡ verdict.Accepted
+once-accepted : netlist_verdict 8 (numbers_of once_cells) ≡ passed
 unfolding netlist_verdict first_refusal cell_refusal ports_of
 once-accepted = refl
 

@@ -30,13 +30,13 @@ pub then-two : (b c : List ℕ) {l v u a : List ℕ} {i j k : ℕ} → Wrote l i
 then-two b c {a = a} p q = rw (append_assoc a b c) (then p q)
 
 -- A byte, where the buffer holds it and where not.
-pub byte-in : (l : List ℕ) (i c : ℕ) → Wrote l i (c ∷ []) (i + 1) (set l i c)
+pub byte_in : (l : List ℕ) (i c : ℕ) → Wrote l i (c ∷ []) (i + 1) (set l i c)
 unfolding placed
-byte-in l i c = record { next_is = refl; holds = refl }
+byte_in l i c = record { next_is = refl; holds = refl }
 
-pub byte-out : (l : List ℕ) (i c : ℕ) → length l ≤ i → Wrote l i (c ∷ []) (i + 1) l
+pub byte_out : (l : List ℕ) (i c : ℕ) → length l ≤ i → Wrote l i (c ∷ []) (i + 1) l
 unfolding placed
-byte-out l i c h = record { next_is = refl; holds = sym (set_out l i c h) }
+byte_out l i c h = record { next_is = refl; holds = sym (set_out l i c h) }
 
 -- Rows: none yet, and one more.
 pub no_rows : (f : ℕ → List ℕ) (l : List ℕ) (i : ℕ) → Wrote l i (rows f 0) i l

@@ -14,7 +14,7 @@ ghost use Rattle.spelling.specs.Pieces.{
 };
 
 // What the capitals N, X, Y, Z, W and T of a template stand for.
-#[derive(Clone, Copy)]
+#[derive(Clone, Copy, Debug, PartialEq, Eq)]
 pub struct Blanks {
     pub n: u32,
     pub x: u32,
@@ -30,16 +30,17 @@ pub fn blanks_of(width: u32, n: u32, x: u32) -> Blanks
     ensures { result ≡ blanks_of width n x }
 {
     Blanks {
-        n: n,
-        x: x,
+        n,
+        x,
         y: 0,
         z: 0,
-        width: width,
+        width,
         top: width - 1,
     }
 }
 
 // Writes one byte.
+#[tactic(auto, using(crate::proofs::Placing::byte_in, crate::proofs::Placing::byte_out))]
 pub fn put(text: &mut [u8], at: usize, byte: u8) -> usize
     requires { at < 2 ^ 40 }
     ensures { Wrote text.old at (byte ∷ []) result text.new }
@@ -68,7 +69,7 @@ fn digit(value: u32) -> u8
     requires { value < 10 }
     ensures { result ≡ 48 + value }
 {
-    (48 + value) as u8
+    b'0' + value as u8
 }
 
 // Writes what a template's byte stands for.
@@ -96,10 +97,8 @@ pub fn fill(text: &mut [u8], at: usize, template: &[u8], blanks: Blanks) -> usiz
     ensures upper_bound { result ≤ at + 640 }
 {
     let mut next = at;
-    let mut j: usize = 0;
-    while j < template.len() {
-        next = spell(text, next, template[j], blanks);
-        j += 1;
+    for &byte in template {
+        next = spell(text, next, byte, blanks);
     }
     next
 }

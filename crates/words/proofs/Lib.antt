@@ -1,3 +1,2 @@
--- What is shown of words: sums and differences that wrap, once over the width, and numbers judged one by one.
+-- What is shown of words: sums and differences that wrap, once over the width.
 pub mod Wrapping
-pub mod Below

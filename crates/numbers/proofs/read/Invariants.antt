@@ -1,10 +1,6 @@
--- Invariant: what is left to read gives what the whole text gives. Measure: the bytes left. Mathematics in `proofs.Underway`.
-use Rattle.std.proofs.Common.{length, ◌-◌}
+-- Invariant: what is left to read, with what is listed, gives what the whole text gives. Mathematics in `proofs.Underway`.
 use Rattle.numbers.proofs.Underway.{Underway}
 use Rattle.numbers.proofs.read.Given as goal
 
-abbrev pub invariant-loop-j : goal.invariant-loop-j
-invariant-loop-j l = Underway l.bytes l.numbers l.count l.inside l.value l.j
-
-abbrev pub decreases-loop-j : goal.decreases-loop-j
-decreases-loop-j l = length l.bytes - l.j
+abbrev pub invariant-loop-byte : goal.invariant-loop-byte
+invariant-loop-byte l = Underway l.bytes l.listed l.current l.byte-index

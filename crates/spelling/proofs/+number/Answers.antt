@@ -9,5 +9,4 @@ pub returns-clause-wrote : goal.returns-clause-wrote
 returns-clause-wrote t c = number_more _ c.if-value-lt10.false c.digit-2.ensures c.number-next.ensures.wrote c.put-2.ensures
 
 pub returns-clause-upper_bound : goal.returns-clause-upper_bound
-returns-clause-upper_bound t c =
-    number-near c.ranges.value.fits (number_more _ c.if-value-lt10.false c.digit-2.ensures c.number-next.ensures.wrote c.put-2.ensures)
+returns-clause-upper_bound t c = number-near c.ranges.value.fits (returns-clause-wrote t c)

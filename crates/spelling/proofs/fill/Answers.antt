@@ -3,12 +3,11 @@ use Rattle.std.proofs.Common.{arith}
 use Rattle.spelling.proofs.Placing.{no_rows, row_more}
 use Rattle.spelling.proofs.fill.Goals as goal
 
-pub loop-j-init : goal.loop-j-init
-loop-j-init c = record { within = omega arith; near = omega arith; wrote = no_rows _ _ _ }
+pub loop-byte-init : goal.loop-byte-init
+loop-byte-init c = record { near = omega arith; wrote = no_rows _ _ _ }
 
-pub loop-j-preserved : goal.loop-j-preserved
-loop-j-preserved c = record {
-  within = omega arith;
+pub loop-byte-preserved : goal.loop-byte-preserved
+loop-byte-preserved c = record {
   near = omega arith;
-  wrote = row_more _ c.loop-j.invariant.wrote c.spell-next.ensures.wrote;
+  wrote = row_more _ c.loop-byte.invariant.wrote c.spell-next.ensures.wrote;
 }

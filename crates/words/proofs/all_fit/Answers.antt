@@ -1,13 +1,11 @@
--- The first word that does not fit decides; where none is found, all are below the bound.
-use Rattle.std.proofs.Common.{sym, ◌∙◌}
-use Rattle.words.proofs.Below.{below_end, below_on, below-not}
+-- `all` answers true where every word is below the bound, and false where one is not.
+use Rattle.std.proofs.Common.{◌^◌, ltb, refl, rules}
+use Rattle.std.proofs.lemmas.List.Recursion.{and_is}
+use Rattle.meaning.specs.Choices.{all_below}
 use Rattle.words.proofs.all_fit.Goals as goal
 
-pub returns-then-not-fits : goal.returns-then-not-fits
-returns-then-not-fits c = below-not _ _ _ c.loop-j.invariant c.loop-j-test.true (sym c.fits.ensures ∙ c.if-not-fits.true)
-
-pub loop-j-preserved : goal.loop-j-preserved
-loop-j-preserved c = below_on _ _ _ c.loop-j.invariant c.loop-j-test.true (sym c.fits.ensures ∙ c.if-not-fits.false)
-
 pub returns : goal.returns
-returns c = below_end _ _ _ c.loop-j.invariant c.loop-j-test.false
+unfolding all_below
+returns c =
+    let b = 2 ^ c.args.width in
+    and_is (all_below b) (λ x. ltb x b) refl (λ _ _. refl) c.args.words.now 0 _ (search rules) (search rules)

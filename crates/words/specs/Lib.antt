@@ -1,0 +1,2 @@
+-- What the operations are called. Definitions only.
+pub mod Operations
