@@ -2,72 +2,66 @@
 -- The loops of `cells::check` and of the simulator's check 18 cite it. Assumes nothing.
 use Prim.Native.Nat.{ℕ, zero, suc, ◌+◌, ◌-◌, ◌≤◌, ◌<◌}
 use mathlib.Core.Path.{◌≡◌, refl, sym, ap, ◌∙◌}
-use mathlib.Core.Bool.{Bool, true, false}
 use native.Mathlib.Numerals.{add-one}
 use native.Mathlib.Omega.{arith}
-use lib.Dec.{eqb}
-use borrow.Author.Tests.{eq-eqb, ne_eqb}
-use Rattle.meaning.specs.declared.Verdict.{Verdict}
-use Rattle.meaning.specs.declared.Verdict.TheVariants as verdict
-use Rattle.meaning.specs.Choices.{pick}
+use Rattle.std.specs.Prelude.{Ok, Err}
+use Rattle.meaning.specs.declared.Cause.{Cause}
+use Rattle.meaning.specs.Refusals.{Check, Verdict, passed, refused, on_verdict}
 use Rattle.meaning.specs.Checks.{first_refusal}
-use Rattle.meaning.specs.Answers.{on_verdict}
 
--- One place more, by the number that it gives.
-module _ (number : ℕ → ℕ) (m k : ℕ) (follows : Verdict) where
-  pub passes : number k ≡ 0 → first_refusal number (suc m) k follows ≡ first_refusal number m (suc k) follows
+-- One place more, by what its check answers.
+module _ (check : ℕ → Check) (m k : ℕ) (follows : Verdict) where
+  pub passes : check k ≡ passed → first_refusal check (suc m) k follows ≡ first_refusal check m (suc k) follows
   unfolding first_refusal
-  passes e = rw (eq-eqb _ _ e)
+  passes e = rw e
 
-  pub stops : (number k ≡ 0 → ⊥) → first_refusal number (suc m) k follows ≡ verdict.Refused (number k) k
+  pub stops : (c : Cause) → check k ≡ Err c → first_refusal check (suc m) k follows ≡ refused c k
   unfolding first_refusal
-  stops f = rw (ne_eqb _ _ f)
+  stops c e = rw e
 
 -- The places below n pass: the rest of the scan gives what all of it gives.
-pub record Going (number : ℕ → ℕ) (count : ℕ) (follows : Verdict) (n : ℕ) : Type 0 where
+pub record Going (check : ℕ → Check) (count : ℕ) (follows : Verdict) (n : ℕ) : Type 0 where
   pub within : n ≤ count
-  pub same : first_refusal number (count - n) n follows ≡ first_refusal number count 0 follows
+  pub same : first_refusal check (count - n) n follows ≡ first_refusal check count 0 follows
 
-module _ (number : ℕ → ℕ) (count : ℕ) (follows : Verdict) where
-  pub going_start : Going number count follows 0
+module _ (check : ℕ → Check) (count : ℕ) (follows : Verdict) where
+  pub going_start : Going check count follows 0
   going_start = record {
     within = omega arith;
-    same = let u : count - 0 ≡ count = omega arith in ap (λ (m : ℕ). first_refusal number m 0 follows) u;
+    same = let u : count - 0 ≡ count = omega arith in ap (λ (m : ℕ). first_refusal check m 0 follows) u;
   }
 
-  module _ (n : ℕ) (G : Going number count follows n) where
+  module _ (n : ℕ) (G : Going check count follows n) where
     -- Where every place passed, what follows decides.
-    pub going_end : n ≡ count → follows ≡ first_refusal number count 0 follows
+    pub going_end : n ≡ count → follows ≡ first_refusal check count 0 follows
     unfolding first_refusal
     going_end e = let u : count - n ≡ 0 = omega arith in
-        sym (ap (λ (m : ℕ). first_refusal number m n follows) u) ∙ G.same
+        sym (ap (λ (m : ℕ). first_refusal check m n follows) u) ∙ G.same
 
     module _ (l : n < count) where
-      left : first_refusal number (suc (count - suc n)) n follows ≡ first_refusal number count 0 follows
+      left : first_refusal check (suc (count - suc n)) n follows ≡ first_refusal check count 0 follows
       left = let u : suc (count - suc n) ≡ count - n = omega arith in
-          ap (λ (m : ℕ). first_refusal number m n follows) u ∙ G.same
+          ap (λ (m : ℕ). first_refusal check m n follows) u ∙ G.same
 
       -- A place that does not pass is the answer.
-      pub going-stop : (r : ℕ) → r ≡ number n → (r ≡ 0 → ⊥) → verdict.Refused r n ≡ first_refusal number count 0 follows
-      going-stop r e f = rw e (sym (stops number (count - suc n) n follows (λ z. f (e ∙ z))) ∙ left)
+      pub going-stop : (c : Cause) → check n ≡ Err c → refused c n ≡ first_refusal check count 0 follows
+      going-stop c e = sym (stops check (count - suc n) n follows c e) ∙ left
 
-      pub going_on : (r : ℕ) → r ≡ number n → r ≡ 0 → Going number count follows (n + 1)
-      going_on r e z = rw (add-one n) (record {
+      pub going_on : check n ≡ passed → Going check count follows (n + 1)
+      going_on e = rw (add-one n) (record {
         within = omega arith;
-        same = sym (passes number (count - suc n) n follows (sym e ∙ z)) ∙ left;
+        same = sym (passes check (count - suc n) n follows e) ∙ left;
       })
 
 -- What follows a scan may be asked for afterwards.
-pub scan-then : (number : ℕ → ℕ) (m k : ℕ) (follows : Verdict) →
-    first_refusal number m k follows ≡ on_verdict (first_refusal number m k verdict.Accepted) follows verdict.Refused
+pub scan-then : (check : ℕ → Check) (m k : ℕ) (follows : Verdict) →
+    first_refusal check m k follows ≡ on_verdict (first_refusal check m k passed) follows Err
 unfolding first_refusal
-scan-then number zero k follows = refl
-scan-then number (suc m) k follows = split (eqb (number k) 0) (scan-then number m (suc k) follows)
+scan-then check zero k follows = refl
+scan-then check (suc m) k follows = split (check k) (scan-then check m (suc k) follows)
   where
-    split : (b : Bool) →
-        first_refusal number m (suc k) follows ≡
-        on_verdict (first_refusal number m (suc k) verdict.Accepted) follows verdict.Refused →
-        pick b (first_refusal number m (suc k) follows) (verdict.Refused (number k) k) ≡
-        on_verdict (pick b (first_refusal number m (suc k) verdict.Accepted) (verdict.Refused (number k) k)) follows verdict.Refused
-    split true e = e
-    split false e = refl
+    split : (c : Check) → first_refusal check m (suc k) follows ≡ on_verdict (first_refusal check m (suc k) passed) follows Err →
+        on_verdict c (first_refusal check m (suc k) follows) (λ e. refused e k) ≡
+        on_verdict (on_verdict c (first_refusal check m (suc k) passed) (λ e. refused e k)) follows Err
+    split (Ok u) e = e
+    split (Err x) e = refl

@@ -1,7 +1,7 @@
 // The refusals 13 to 16 of one cell: its kind, and three tests of a number by its port, each asked
 // of x, y and z. docs/READING.md: "Refusal numbers".
-ghost use Rattle.std.specs.Prelude.{◌≡◌, true, ◌≤◌, ◌<◌};
-ghost use Rattle.meaning.specs.Choices.{and};
+ghost use Rattle.std.specs.Prelude.{◌≡◌, ℕ, Bool, true, ◌≤◌, ◌<◌};
+ghost use Rattle.circuit.specs.declared.Port.{Port};
 ghost use Rattle.circuit.specs.Cells.{cell_count};
 ghost use Rattle.circuit.specs.Netlists.{
   number_fits,
@@ -10,9 +10,11 @@ ghost use Rattle.circuit.specs.Netlists.{
   all_ports,
   cell_refusal,
 };
+ghost use Rattle.cells.specs.Numbers.{EachPort};
 
 use crate::kinds;
 use circuit::Port;
+use meaning::Cause;
 
 // 14: the number is in the range of its port.
 fn number_fits(width: u32, port: Port, v: u32) -> bool
@@ -32,102 +34,57 @@ fn wire_fits(n: usize, cells: usize, port: Port, v: u32) -> bool
     ensures { result ≡ wire_fits n cells port v }
 {
     match port {
-        Port::Bit => (v as usize) < n,
-        Port::Word => (v as usize) < n,
-        Port::LaterBit => (v as usize) < cells,
-        Port::LaterWord => (v as usize) < cells,
+        Port::Bit | Port::Word => (v as usize) < n,
+        Port::LaterBit | Port::LaterWord => (v as usize) < cells,
         _ => true,
     }
 }
 
-// 16: the wire, which exists, is no word where a bit is due and no bit where a word is due.
-fn sort_fits(netlist: &[u32], port: Port, v: u32) -> bool
-    requires { wire_fits (cell_count netlist.now) (cell_count netlist.now) port v ≡ true }
+// 16: the wire of cell n, which is there, is no word where a bit is due and no bit where a word is
+// due.
+fn sort_fits(netlist: &[u32], n: usize, port: Port, v: u32) -> bool
+    requires { (n < cell_count netlist.now) × (wire_fits n (cell_count netlist.now) port v ≡ true) }
     ensures { result ≡ sort_fits netlist.now port v }
 {
     match port {
-        Port::Bit => !kinds::drives_word(crate::kind(netlist, v as usize)),
-        Port::Word => !kinds::drives_bit(crate::kind(netlist, v as usize)),
-        Port::LaterBit => !kinds::drives_word(crate::kind(netlist, v as usize)),
-        Port::LaterWord => !kinds::drives_bit(crate::kind(netlist, v as usize)),
+        Port::Bit | Port::LaterBit => !kinds::drives_word(crate::kind(netlist, v as usize)),
+        Port::Word | Port::LaterWord => !kinds::drives_bit(crate::kind(netlist, v as usize)),
         _ => true,
     }
 }
 
-// All three tests hold.
-fn all(x: bool, y: bool, z: bool) -> bool
-    ensures { result ≡ and x (and y z) }
-{
-    x && (y && z)
-}
-
-// 14 of all three numbers of cell n.
-fn numbers_fit(width: u32, netlist: &[u32], n: usize) -> bool
-    requires { (width ≤ 32) × (n < cell_count netlist.now) }
-    ensures { result ≡ all_ports (number_fits width) netlist.now n }
+// A test of all three numbers of cell n, each as what it is. `of` is what the test computes.
+fn all_ports<F: Fn(Port, u32) -> bool>(netlist: &[u32], n: usize, test: F) -> bool
+    ghost of: { Port → ℕ → Bool }
+    requires in_netlist { n < cell_count netlist.now }
+    requires callable { EachPort (λ p v. F.pre test p v) netlist.now n }
+    requires answers { (p : Port) (v : ℕ) (r : Bool) → F.post test p v r → r ≡ of p v }
+    ensures { result ≡ all_ports of netlist.now n }
 {
     let ports = kinds::ports_of(crate::kind(netlist, n));
-    let x = ports.x;
-    let y = ports.y;
-    let z = ports.z;
-    all(
-        number_fits(width, x, crate::number(netlist, n, 1)),
-        number_fits(width, y, crate::number(netlist, n, 2)),
-        number_fits(width, z, crate::number(netlist, n, 3)),
-    )
+    test(ports.x, crate::number(netlist, n, 1))
+        && test(ports.y, crate::number(netlist, n, 2))
+        && test(ports.z, crate::number(netlist, n, 3))
 }
 
-// 15 of all three numbers of cell n.
-fn wires_fit(netlist: &[u32], n: usize) -> bool
-    requires { n < cell_count netlist.now }
-    ensures { result ≡ all_ports (wire_fits n (cell_count netlist.now))
-        netlist.now n }
-{
-    let ports = kinds::ports_of(crate::kind(netlist, n));
-    let x = ports.x;
-    let y = ports.y;
-    let z = ports.z;
-    let cells = crate::count(netlist);
-    all(
-        wire_fits(n, cells, x, crate::number(netlist, n, 1)),
-        wire_fits(n, cells, y, crate::number(netlist, n, 2)),
-        wire_fits(n, cells, z, crate::number(netlist, n, 3)),
-    )
-}
-
-// 16 of all three numbers of cell n, whose wires are there.
-fn sorts_fit(netlist: &[u32], n: usize) -> bool
-    requires { (n < cell_count netlist.now)
-        × (all_ports (wire_fits n (cell_count netlist.now)) netlist.now n ≡ true) }
-    ensures { result ≡ all_ports (sort_fits netlist.now) netlist.now n }
-{
-    let ports = kinds::ports_of(crate::kind(netlist, n));
-    let x = ports.x;
-    let y = ports.y;
-    let z = ports.z;
-    all(
-        sort_fits(netlist, x, crate::number(netlist, n, 1)),
-        sort_fits(netlist, y, crate::number(netlist, n, 2)),
-        sort_fits(netlist, z, crate::number(netlist, n, 3)),
-    )
-}
-
-// The first refusal of 13 to 16 that cell n gives, or 0.
-pub fn refusal(width: u32, netlist: &[u32], n: usize) -> u32
+// The first refusal of 13 to 16 that cell n gives.
+#[tactic(auto, unfolding(circuit::specs::Netlists::cell_refusal))]
+pub fn refusal(width: u32, netlist: &[u32], n: usize) -> Result<(), Cause>
     requires { (width ≤ 32) × (n < cell_count netlist.now) }
     ensures { result ≡ cell_refusal width netlist.now n }
 {
     if !kinds::known(crate::kind(netlist, n)) {
-        return 13;
+        return Err(Cause::CellKind);
     }
-    if !numbers_fit(width, netlist, n) {
-        return 14;
+    if !all_ports(netlist, n, |port, v| number_fits(width, port, v)) {
+        return Err(Cause::CellNumber);
     }
-    if !wires_fit(netlist, n) {
-        return 15;
+    let cells = crate::count(netlist);
+    if !all_ports(netlist, n, |port, v| wire_fits(n, cells, port, v)) {
+        return Err(Cause::CellWire);
     }
-    if !sorts_fit(netlist, n) {
-        return 16;
+    if !all_ports(netlist, n, |port, v| sort_fits(netlist, n, port, v)) {
+        return Err(Cause::WireSort);
     }
-    0
+    Ok(())
 }

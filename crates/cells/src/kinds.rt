@@ -4,10 +4,10 @@ ghost use Rattle.std.specs.Prelude.{◌≡◌};
 ghost use Rattle.meaning.specs.Choices.{or};
 ghost use Rattle.circuit.specs.Cells.{bit_kind, word_kind, ports_of};
 
-use circuit::Port;
+use circuit::{Gate, Port};
 
 // A kind's three numbers, each as what it is.
-#[derive(Clone, Copy)]
+#[derive(Clone, Copy, Debug, PartialEq, Eq)]
 pub struct Ports {
     pub x: Port,
     pub y: Port,
@@ -25,7 +25,7 @@ pub fn drives_bit(kind: u32) -> bool
 pub fn drives_word(kind: u32) -> bool
     ensures { result ≡ word_kind kind }
 {
-    8 <= kind && kind <= 22
+    (8..=22).contains(&kind)
 }
 
 // Whether there is such a kind.
@@ -35,54 +35,35 @@ pub fn known(kind: u32) -> bool
     drives_bit(kind) || drives_word(kind)
 }
 
-// The ports of a kind of one number.
-fn one(x: Port) -> Ports
-    ensures { (result.x ≡ x) × (result.y ≡ Port.Unused) × (result.z ≡ Port.Unused) }
-{
-    Ports {
-        x: x,
-        y: Port::Unused,
-        z: Port::Unused,
-    }
-}
-
-// The ports of a kind of two numbers.
-fn two(x: Port, y: Port) -> Ports
-    ensures { (result.x ≡ x) × (result.y ≡ y) × (result.z ≡ Port.Unused) }
-{
-    Ports {
-        x: x,
-        y: y,
-        z: Port::Unused,
+impl Ports {
+    // Three numbers, each as what it is.
+    fn new(x: Port, y: Port, z: Port) -> Ports
+        ensures { (result.x ≡ x) × (result.y ≡ y) × (result.z ≡ z) }
+    {
+        Ports { x, y, z }
     }
 }
 
 // The ports of a kind.
+#[tactic(auto, using(crate::proofs::Gates::ports_by_gate))]
 pub fn ports_of(kind: u32) -> Ports
     ensures { (result.x ≡ (ports_of kind).x) × (result.y ≡ (ports_of kind).y)
         × (result.z ≡ (ports_of kind).z) }
 {
-    match kind {
-        0 => one(Port::Unused),
-        1 => one(Port::Bit),
-        2 => two(Port::Bit, Port::Bit),
-        3 => two(Port::Bit, Port::Bit),
-        4 => one(Port::LaterBit),
-        5 => one(Port::LaterBit),
-        6 => one(Port::Word),
-        8 => one(Port::Input),
-        9 => one(Port::Constant),
-        10 => one(Port::LaterWord),
-        11 => Ports {
-            x: Port::Bit,
-            y: Port::Word,
-            z: Port::Word,
-        },
-        12 => one(Port::Word),
-        _ => if kind < 20 {
-            two(Port::Word, Port::Word)
-        } else {
-            one(Port::Word)
-        },
+    match Gate::from(kind) {
+        Gate::Load => Ports::new(Port::Unused, Port::Unused, Port::Unused),
+        Gate::Not => Ports::new(Port::Bit, Port::Unused, Port::Unused),
+        Gate::And | Gate::Or => Ports::new(Port::Bit, Port::Bit, Port::Unused),
+        Gate::LowRegister | Gate::HighRegister => {
+            Ports::new(Port::LaterBit, Port::Unused, Port::Unused)
+        }
+        Gate::Input => Ports::new(Port::Input, Port::Unused, Port::Unused),
+        Gate::Constant => Ports::new(Port::Constant, Port::Unused, Port::Unused),
+        Gate::WordRegister => Ports::new(Port::LaterWord, Port::Unused, Port::Unused),
+        Gate::Choice => Ports::new(Port::Bit, Port::Word, Port::Word),
+        Gate::Binary => Ports::new(Port::Word, Port::Word, Port::Unused),
+        Gate::NonZero | Gate::Copy | Gate::Unary => {
+            Ports::new(Port::Word, Port::Unused, Port::Unused)
+        }
     }
 }

@@ -1,5 +1,5 @@
-// A netlist's numbers and its checks 1 and 12 to 16. Every slice has its verdict: accepted, or
-// refused with the number and place of the lowest cell that gives one.
+// A netlist's numbers, its checks 1 and 12 to 16, and which input words it names. Every slice has
+// its verdict: accepted, or refused for the lowest cell that gives a cause.
 // docs/READING.md: "Cells", "Refusal numbers".
 //
 //     check           the width and the length, then cell by cell, lowest first
@@ -10,11 +10,13 @@
 pub mod fits;
 pub mod kinds;
 
-ghost use Rattle.std.specs.Prelude.{◌≡◌, ◌<◌, length};
+ghost use Rattle.std.specs.Prelude.{◌≡◌, ◌<◌};
 ghost use Rattle.circuit.specs.Cells.{stride, cell_number, kind_at, cell_count};
 ghost use Rattle.circuit.specs.Netlists.{netlist_fits, netlist_verdict};
+ghost use Rattle.circuit.specs.Simulated.{inputs_given};
 
-use meaning::Verdict;
+use circuit::Gate;
+use meaning::{Cause, Refusal};
 
 // How many numbers a cell has, and how many cells a netlist at most.
 const STRIDE: usize = 4;
@@ -49,29 +51,34 @@ pub fn netlist_fits(netlist: &[u32]) -> bool
     ensures { result ≡ netlist_fits netlist.now }
 {
     let len = netlist.len();
-    1 <= len && (len % STRIDE == 0 && len <= MOST * STRIDE)
+    1 <= len && len % STRIDE == 0 && len <= MOST * STRIDE
 }
 
 // 1 and 12 to 16.
-pub fn check(width: u32, netlist: &[u32]) -> Verdict
+#[tactic(auto, using(crate::proofs::Checks::by_steps))]
+pub fn check(width: u32, netlist: &[u32]) -> Result<(), Refusal>
     ensures { result ≡ netlist_verdict width netlist.now }
 {
     if !words::width_fits(width) {
-        return Verdict::Refused(1, 0);
+        return Err(Cause::Width.into());
     }
     if !netlist_fits(netlist) {
-        return Verdict::Refused(12, 0);
+        return Err(Cause::NetlistLength.into());
     }
     let count = count(netlist);
-    let mut n: usize = 0;
-    loop {
-        if n == count {
-            break Verdict::Accepted;
-        }
-        let refusal = fits::refusal(width, netlist, n);
-        if refusal != 0 {
-            break Verdict::Refused(refusal, n as u32);
-        }
-        n = n + 1;
+    for n in 0..count {
+        let place = n as u32;
+        fits::refusal(width, netlist, n).map_err(|cause| Refusal { cause, place })?;
     }
+    Ok(())
+}
+
+// Whether every input cell names one of the first m words.
+#[tactic(auto, unfolding(circuit::specs::Simulated::inputs_given))]
+pub fn names_given(netlist: &[u32], m: usize) -> bool
+    ensures { result ≡ inputs_given netlist.now m (cell_count netlist.now) }
+{
+    (0..count(netlist)).all(|n| {
+        Gate::from(kind(netlist, n)) != Gate::Input || (number(netlist, n, 1) as usize) < m
+    })
 }

@@ -1,33 +1,13 @@
--- The first test that fails is the answer. Mathematics in `proofs.Refusing`.
-use Rattle.std.proofs.Common.{sym, ◌∙◌}
-use Rattle.cells.proofs.Refusing.{unknown, bad-number, bad-wire, bad-sort, fine}
+-- Where every wire passes 15, the test of its sort may be asked.
+use Rattle.std.proofs.Common.{◌≡◌, true, rules}
+use Rattle.circuit.specs.Cells.{cell_count}
+use Rattle.circuit.specs.Netlists.{wire_fits, all_ports}
+use Rattle.cells.proofs.Ports.{each}
 use Rattle.cells.proofs.fits.refusal.Goals as goal
 
-pub returns-then-not-known : goal.returns-then-not-known
-returns-then-not-known c =
-    unknown _ _ c.args.n (rw (← c.kind.ensures) (sym c.known.ensures ∙ c.if-not-known.true))
-
-pub returns-then-not-numbers_fit : goal.returns-then-not-numbers_fit
-returns-then-not-numbers_fit c =
-    bad-number _ _ c.args.n (rw (← c.kind.ensures) (sym c.known.ensures ∙ c.if-not-known.false))
-    (sym c.numbers_fit.ensures ∙ c.if-not-numbers_fit.true)
-
-pub returns-then-not-wires_fit : goal.returns-then-not-wires_fit
-returns-then-not-wires_fit c =
-    bad-wire _ _ c.args.n (rw (← c.kind.ensures) (sym c.known.ensures ∙ c.if-not-known.false))
-    (sym c.numbers_fit.ensures ∙ c.if-not-numbers_fit.false)
-    (sym c.wires_fit.ensures ∙ c.if-not-wires_fit.true)
-
-pub returns-then-not-sorts_fit : goal.returns-then-not-sorts_fit
-returns-then-not-sorts_fit c =
-    bad-sort _ _ c.args.n (rw (← c.kind.ensures) (sym c.known.ensures ∙ c.if-not-known.false))
-    (sym c.numbers_fit.ensures ∙ c.if-not-numbers_fit.false)
-    (sym c.wires_fit.ensures ∙ c.if-not-wires_fit.false)
-    (sym c.sorts_fit.ensures ∙ c.if-not-sorts_fit.true)
-
-pub returns : goal.returns
-returns c =
-    fine _ _ c.args.n (rw (← c.kind.ensures) (sym c.known.ensures ∙ c.if-not-known.false))
-    (sym c.numbers_fit.ensures ∙ c.if-not-numbers_fit.false)
-    (sym c.wires_fit.ensures ∙ c.if-not-wires_fit.false)
-    (sym c.sorts_fit.ensures ∙ c.if-not-sorts_fit.false)
+pub all_ports-requires-3 : goal.all_ports-requires-3
+all_ports-requires-3 c =
+    let fit = wire_fits c.args.n (cell_count c.args.netlist.now) in
+    let all : all_ports fit c.args.netlist.now c.args.n ≡ true = search rules in
+    let each = each fit c.args.netlist.now c.args.n all in
+    search (rules, each.0, each.1, each.2)

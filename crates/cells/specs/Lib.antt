@@ -1,0 +1,2 @@
+-- The numbers of a cell, each as what it is. Definitions only.
+pub mod Numbers

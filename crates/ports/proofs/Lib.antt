@@ -1,2 +1,0 @@
--- What is shown of the definitions.
-pub mod Fitting
