@@ -4,6 +4,5 @@ pub mod Pairs
 pub mod Forking
 pub mod Loops
 pub mod Plans
-pub mod Rooms
 pub mod Circuits
 pub mod Unique

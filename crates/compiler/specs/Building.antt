@@ -1,12 +1,10 @@
 -- Building: what the block of a term needs before it is emitted, and what stands in the netlist afterwards. Definitions only.
--- Read after: `Writing`, circuit's `Blocks`, meaning's `Answers`. Assumes nothing.
+-- Read after: `Writing`, circuit's `Blocks`. Assumes nothing.
 use Rattle.std.specs.Prelude.{ℕ, ◌+◌, ◌≤◌, ◌<◌, ◌≡◌, List, ◌++◌, length, take}
-use Rattle.meaning.specs.declared.Verdict.TheVariants as verdict
 use Rattle.meaning.specs.Choices.{padded}
 use Rattle.meaning.specs.Terms.{kind_of, count, Term, tree}
-use Rattle.meaning.specs.Counts.{ins, outs, size, whole_size}
-use Rattle.meaning.specs.Checks.{verdict_of, operand_tree}
-use Rattle.meaning.specs.Answers.{column}
+use Rattle.meaning.specs.Counts.{ins, size}
+use Rattle.meaning.specs.Checks.{operand_tree}
 use Rattle.circuit.specs.Cells.{Cell}
 use Rattle.circuit.specs.Pieces.{◌after◌, Block, Emitter, gates}
 use Rattle.circuit.specs.Blocks.{emit}
@@ -14,19 +12,10 @@ use Rattle.pieces.specs.declared.leaves.Made.{Made}
 use Rattle.pieces.specs.declared.seams.Forked.{Forked}
 use Rattle.pieces.specs.Writing.{written, Room}
 
--- Term k of a table that some width accepts, with the table's counts of words in and out in arrays.
-pub record Known (t is os : List ℕ) (k : ℕ) : Type 0 where
-  pub width : ℕ
-  pub accepted : verdict_of width t ≡ verdict.Accepted
-  pub takes : is ≡ column ins t
-  pub gives : os ≡ column outs t
+-- Term k of a table can be emitted at p.
+pub record Ready (t : List ℕ) (k : ℕ) (net : List ℕ) (p : ℕ) : Type 0 where
   pub there : k < count t
-
--- It can be emitted at p.
-pub record Ready (t is os : List ℕ) (k : ℕ) (net : List ℕ) (p : ℕ) (words : List ℕ) : Type 0 where
-  pub known : Known t is os k
   pub room : Room net p (size (tree t k))
-  pub sixteen : length words ≡ 16
 
 -- The block of a term on the first of 16 wires, as many as it takes.
 abbrev pub block_of : Term → ℕ → ℕ → List ℕ → Block
@@ -60,11 +49,10 @@ abbrev pub fork_cells : Fork → List Cell
 fork_cells B = B.test.cells ++ (gates B.gate B.test ++ (B.yes.cells ++ B.no.cells))
 
 -- The operands of term k, an Ite or a Rec, can be emitted so from p on.
-pub record ForkReady (t is os : List ℕ) (k : ℕ) (net : List ℕ) (p : ℕ) (live kept : List ℕ) : Type 0 where
-  pub known : Known t is os k
+pub record ForkReady (t : List ℕ) (k : ℕ) (net : List ℕ) (p : ℕ) : Type 0 where
+  pub there : k < count t
   pub tests : (3 ≤ kind_of t k) × (kind_of t k ≤ 4)
   pub room : Room net p (size (operand_tree t k 1) + 7 + size (operand_tree t k 2) + size (operand_tree t k 3))
-  pub sixteen : (length live ≡ 16) × (length kept ≡ 16)
 
 -- The fork of term k's operands, on as many of the live and of the kept wires as the test takes.
 abbrev pub fork_at : List ℕ → ℕ → ℕ → ℕ → List ℕ → List ℕ → Fork
@@ -82,8 +70,3 @@ pub record Forks (B : Fork) (p : ℕ) (old new ends feeds : List ℕ) (r : Forke
   pub yes : ends ≡ padded 16 B.yes.outs
   pub no : feeds ≡ padded 16 B.no.outs
   pub net : new ≡ written old p (fork_cells B)
-
--- The whole circuit of term k has room from the first cell on.
-pub record WholeReady (t is os : List ℕ) (k : ℕ) (net : List ℕ) : Type 0 where
-  pub known : Known t is os k
-  pub room : Room net 0 (whole_size (tree t k))
