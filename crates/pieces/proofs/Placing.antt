@@ -2,11 +2,12 @@
 -- Assumes nothing.
 use Prim.Native.Nat.{ℕ, zero, suc, ◌+◌, ◌*◌, ◌≤◌, ◌<◌}
 use mathlib.Core.Path.{◌≡◌, refl, sym, ap, ◌∙◌}
-use mathlib.Core.List.{List, [], ◌∷◌, ◌++◌}
+use mathlib.Core.List.{List, [], ◌∷◌, ◌++◌, append_assoc}
 use native.Mathlib.Nat.{add-zero, add-suc}
 use native.Mathlib.Omega.{arith}
 use lib.ListN.{length, set, take, drop}
-use lib.Seq.{sets, length-sets, sets-eq, set_comm}
+use lib.Seq.{sets, length-sets, sets-eq, set_comm, drop-drop}
+use borrow.Rule.Slice.PartMut.{put_mid}
 use Rattle.circuit.specs.Cells.{stride, Cell, cell, numbers_of}
 use Rattle.circuit.proofs.Lengths.{numbers-length}
 use Rattle.circuit.specs.Pieces.{◌after◌}
@@ -54,6 +55,11 @@ pub placed-within : (vs l : List ℕ) (i : ℕ) → i + length vs ≤ length l �
 unfolding placed
 placed-within vs l i h = sets-eq vs l i h
 
+-- A list copied over a part of another is placed there.
+pub copied : (l vs w : List ℕ) (i k : ℕ) → w ≡ vs → k ≡ length vs → i + k ≤ length l → put_mid i k l w ≡ placed l i vs
+copied l vs w i k e n h =
+    rw (e, drop-drop k i l, ← append_assoc (take i l) vs (drop (i + k) l), n) (sym (placed-within vs l i (omega arith)))
+
 -- Cells: the same laws, counted in cells.
 pub numbers-append : (a b : List Cell) → numbers_of (a ++ b) ≡ numbers_of a ++ numbers_of b
 numbers-append [] b = refl
@@ -89,3 +95,8 @@ module _ (l : List ℕ) (p : ℕ) (a b : List Cell) (q : ℕ) (e : p + length a 
 
   pub before : (v w : List ℕ) → v ≡ written l q b → w ≡ written v p a → w ≡ written l p (a ++ b)
   before v w d f = f ∙ (ap (λ (u : List ℕ). written u p a) d ∙ written-before)
+
+-- A turn of a loop that writes: the row and one piece are the longer row.
+module _ (l : List ℕ) (p : ℕ) (row piece longer : List Cell) (q : ℕ) (e : p + length row ≡ q) (s : longer ≡ row ++ piece) where
+  pub row_more : (v w : List ℕ) → v ≡ written l p row → w ≡ written v q piece → w ≡ written l p longer
+  row_more v w a b = then l p row piece q e v w a b ∙ ap (written l p) (sym s)

@@ -1,4 +1,4 @@
--- Law: what stands in front of and behind a test with its branches, from what the calls left. `seams` cites this. Assumes nothing.
+-- Law: what stands in front of the test of a Rec, from what the calls left. `seams` cites this. Assumes nothing.
 use Prim.Native.Nat.{ℕ, ◌+◌, ◌*◌, ◌≤◌}
 use mathlib.Core.Path.{◌≡◌, refl, sym, ap, ◌∙◌}
 use mathlib.Core.List.{List, [], ◌∷◌, ◌++◌}
@@ -7,14 +7,12 @@ use lib.ListN.{length, take, length-append}
 use lib.Seq.{length-take-le}
 use Rattle.meaning.specs.Choices.{padded}
 use Rattle.meaning.proofs.Lists.{padded-length}
-use Rattle.circuit.specs.Cells.{Cell, and_cell, or_cell}
-use Rattle.circuit.specs.Pieces.{◌after◌, wires_from, keeps, kept, choices, registers}
+use Rattle.circuit.specs.Cells.{Cell, or_cell}
+use Rattle.circuit.specs.Pieces.{◌after◌, wires_from, keeps, kept, choices}
 use Rattle.circuit.proofs.Lengths.{wires-length, keeps-length, kept-length, choices-length}
-use Rattle.pieces.specs.declared.seams.Forked.{Forked}
 use Rattle.pieces.specs.Writing.{written}
-use Rattle.pieces.specs.Seams.{Round, round_of, merge_cells}
-use Rattle.pieces.proofs.Placing.{plus-after, then, before}
-use Rattle.pieces.proofs.Groups.{two}
+use Rattle.pieces.specs.Seams.{Round, round_of}
+use Rattle.pieces.proofs.Placing.{plus-after, then}
 use Rattle.pieces.proofs.Turns.{wires-sixteen, padded-first}
 
 -- The choices of a round, and all its cells, are as many as the words say.
@@ -80,32 +78,21 @@ module _ (b s n o m k : ℕ) (xs : List ℕ) (n-is : n ≡ length xs) (o_is : o 
       ap (take n) (W ∙ rw (plus-after 1 b, n-is) refl)
       ∙ padded-first 16 n (wires_from (1 after b) (length xs)) (wires-length (length xs) (1 after b) ∙ sym n-is)
 
-  pub round-words : live ≡ padded 16 R.us
+  round-words : live ≡ padded 16 R.us
   round-words = U ∙ rw (m-at, n-is) refl
 
   live-is : take n live ≡ R.us
   live-is = ap (take n) round-words ∙ padded-first 16 n R.us (wires-length (length xs) (1 after R.o) ∙ sym n-is)
 
-  pub round-kept : kw ≡ padded 16 R.ks
+  round-kept : kw ≡ padded 16 R.ks
   round-kept = K1 ∙ rw (live-is, k-at) refl
 
-  pub round-written : v3 ≡ written l o R.cells
+  round-written : v3 ≡ written l o R.cells
   round-written =
       then l o (or_cell s b ∷ []) (chosen b s xs ++ keeps k R.o R.us) m (omega arith) v1 v3 S
       (then v1 m (chosen b s xs) (keeps k R.o R.us) k (omega (arith, chosen-long b s xs, n-is)) v2 v3 (C ∙ rw fed-is refl)
       (K2 ∙ rw (live-is, o-at) refl))
       ∙ rw k-at refl
 
--- Behind the branches of a Rec: the registers, and the one in front of them.
-pub feed-written : (p : ℕ) (c : Cell) (xs v1 v2 v3 w : List ℕ) → v1 ≡ w → v2 ≡ written v1 (p + 1) (registers xs) →
-    v3 ≡ written v2 p (c ∷ []) → v3 ≡ written w p (c ∷ registers xs)
-feed-written p c xs v1 v2 v3 w E G A =
-    before v1 p (c ∷ []) (registers xs) (p + 1) (omega arith) v2 v3 G A ∙ ap (λ (u : List ℕ). written u p (c ∷ registers xs)) E
-
--- Behind the branches of an Ite: two cells, and the choices.
-pub merge-written : (r : Forked) (xs ys l v1 v2 v3 : List ℕ) → v1 ≡ written l r.next (and_cell r.tested r.left ∷ []) →
-    v2 ≡ written v1 (r.next + 1) (and_cell r.next r.again ∷ []) → v3 ≡ written v2 (r.next + 2) (choices (r.gate + 3) xs ys) →
-    v3 ≡ written l r.next (merge_cells r xs ys)
-merge-written r xs ys l v1 v2 v3 D1 D2 C =
-    then l r.next (and_cell r.tested r.left ∷ and_cell r.next r.again ∷ []) (choices (r.gate + 3) xs ys) (r.next + 2)
-    (omega arith) v2 v3 (two (and_cell r.tested r.left) (and_cell r.next r.again) l v1 v2 r.next (r.next + 1) refl D1 D2) C
+  pub round-all : (live ≡ padded 16 R.us) × (kw ≡ padded 16 R.ks) × (v3 ≡ written l o R.cells)
+  round-all = (round-words, round-kept, round-written)

@@ -1,8 +1,6 @@
--- `cells::front` meets its contract: five cells are put in a row.
-use Rattle.pieces.proofs.Groups.{front-group}
+-- `cells::front` meets its contract: what the code adds is what the definition counts.
+use Rattle.pieces.proofs.Placing.{plus-after}
 use Rattle.pieces.proofs.cells.front.Goals as goal
 
 pub returns : goal.returns
-returns c =
-    front-group c.args.netlist.now c.args.n c.args.done _ _ _ _ _
-    c.put.ensures c.put-2.ensures c.put-3.ensures c.put-4.ensures c.put-5.ensures
+returns c = simp plus-after (simp plus-after at c.place_all.ensures)

@@ -1,13 +1,7 @@
--- `seams::merge` meets its contract: two cells and a row of choices. Mathematics in `proofs.Seaming`.
-use Rattle.std.proofs.Common.{refl, take}
-use Rattle.pieces.proofs.Seaming.{merge-written}
+-- `seams::merge` meets its contract: two cells and a row of choices.
+use Rattle.std.proofs.Common.{refl, arith}
+use Rattle.pieces.proofs.Placing.{then}
 use Rattle.pieces.proofs.seams.merge.Goals as goal
 
 pub returns : goal.returns
-returns c =
-    let a = c.args in (
-      refl,
-      c.wires.ensures,
-      merge-written a.both (take a.m a.words.now) (take a.m a.others.now) _ _ _ _
-          c.put.ensures c.put-2.ensures c.choose.ensures,
-    )
+returns c = (refl, c.wires.ensures, then _ _ _ _ _ (omega arith) _ _ c.place_all.ensures c.choose.ensures)
