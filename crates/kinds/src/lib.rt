@@ -47,20 +47,12 @@ fn used(kind: u32) -> usize
     }
 }
 
-// Number j is one of those used, or it is 0.
-fn used_or_zero(uses: usize, j: usize, x: u32) -> bool
-    ensures { result ≡ or (leb j uses) (eqb x 0) }
-{
-    j <= uses || x == 0
-}
-
 // 4: the unused numbers of a term are 0.
 fn unused_zero(kind: u32, a: u32, b: u32, c: u32) -> bool
     requires { known_kind kind ≡ true }
     ensures { result ≡ unused_zero (alone kind a b c) 0 }
 {
-    let uses = used(kind);
-    used_or_zero(uses, 1, a) && used_or_zero(uses, 2, b) && used_or_zero(uses, 3, c)
+    [a, b, c].iter().skip(used(kind)).all(|x| *x == 0)
 }
 
 // m is 1 to 16.

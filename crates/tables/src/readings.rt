@@ -10,6 +10,7 @@ ghost use Rattle.tables.specs.Readings.{shape_of, Ready};
 use meaning::{Cause, Kind, Known};
 
 // What is known of operand j of term k.
+#[tactic(auto, using(crate::proofs::Combined::low_operands))]
 fn read(table: &[u32], k: usize, j: usize, terms: &[Known; 256]) -> Known
     requires ready { Ready table.now k terms.now }
     requires below { operands_below table.now k (operands_of (kind_of table.now k)) ≡ true }
@@ -21,7 +22,7 @@ fn read(table: &[u32], k: usize, j: usize, terms: &[Known; 256]) -> Known
 }
 
 // What term k gives, its operands being lower terms, which are known.
-#[tactic(auto, unfolding(meaning::specs::Checks::operands_of))]
+#[tactic(auto, using(crate::proofs::Combined::found_by_kind))]
 pub fn shape_of(table: &[u32], k: usize, terms: &[Known; 256]) -> Result<Known, Cause>
     requires ready { Ready table.now k terms.now }
     requires below { operands_below table.now k (operands_of (kind_of table.now k)) ≡ true }

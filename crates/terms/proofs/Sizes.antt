@@ -49,3 +49,6 @@ module _ (w : ℕ) (t : List ℕ) (terms : List Known) (k : ℕ) (judged : facts
       sized kind.Field e = let p = of-kind kind.Field e in rw p
       sized kind.Binary e = let p = of-kind kind.Binary e in rw p
       sized kind.Unary e = let p = of-kind kind.Unary e in rw p
+
+-- Kind by kind.
+pub ruleset cells_by_kind = (seq_cells, par_cells, ite_cells, rec_cells, leaf_cells)

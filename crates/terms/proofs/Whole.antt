@@ -62,14 +62,14 @@ module _ (w : ℕ) (t : List ℕ) where
   abbrev sized : Result (List Known) Refusal
   sized = on_verdict (size_verdict t) (Ok (known_facts t)) Err
 
-  in-order : facts_of w t ≡ on_verdict (framed_of w t) (on_verdict scan sized Err) Err
+  by_checks : facts_of w t ≡ on_verdict (framed_of w t) (on_verdict scan sized Err) Err
   unfolding facts_of verdict_of framed_of
-  in-order =
+  by_checks =
       framed (width_fits w) (length_fits t) (first_refusal (refusal_at w t) (count t) 0 (size_verdict t)) (Ok (known_facts t)) Err
       ∙ rw (follows (refusal_at w t) (count t) 0 (size_verdict t), chained scan (size_verdict t) (known_facts t))
 
   pub frame_refused : (e : Refusal) → Err e ≡ framed_of w t → Err e ≡ facts_of w t
-  frame_refused e h = rw (in-order, ← h)
+  frame_refused e h = rw (by_checks, ← h)
 
   module _ (h : passed ≡ framed_of w t) where
     -- The width, and how many terms there are.
@@ -85,7 +85,7 @@ module _ (w : ℕ) (t : List ℕ) where
         (leb-true _ _ (both (leb 1 w) (leb w 32) a.0).1, omega arith, leb-true _ _ m.1)
 
     pub scan_refused : (e : Refusal) → Scanned w t (Err e) → Err e ≡ facts_of w t
-    scan_refused e S = rw (in-order, ← h, fails scan (known_facts t) e S.first)
+    scan_refused e S = rw (by_checks, ← h, fails scan (known_facts t) e S.first)
 
     module _ (terms : List Known) (S : Scanned w t (Ok terms)) where
       scanned : (scan ≡ passed) × (terms ≡ known_facts t)
@@ -110,10 +110,13 @@ module _ (w : ℕ) (t : List ℕ) where
           refused cause.CircuitSize 0 ≡ facts_of w t
       size_refused g =
           let m : 4096 < whole_size (main_of t) = omega (arith, main-sized, min-le_right (size (main_of t)) 4097) in
-          rw (in-order, ← h, scanned.0, lt-leb (whole_size (main_of t)) 4096 m)
+          rw (by_checks, ← h, scanned.0, lt-leb (whole_size (main_of t)) 4096 m)
 
       pub all_passed : 6 + (get_or terms (last_of t) nothing_known).ins + (get_or terms (last_of t) nothing_known).cells ≤ 4096 →
           Ok terms ≡ facts_of w t
       all_passed g =
           let m : whole_size (main_of t) ≤ 4096 = omega (arith, main-sized, min-le_right (size (main_of t)) 4097) in
-          rw (in-order, ← h, scanned.0, le-leb (whole_size (main_of t)) 4096 m, scanned.1)
+          rw (by_checks, ← h, scanned.0, le-leb (whole_size (main_of t)) 4096 m, scanned.1)
+
+-- The checks in their order.
+pub ruleset in_order = (frame_refused, framed_in, scan_refused, main_few, size_refused, all_passed)

@@ -79,7 +79,7 @@ impl Accepted<'_> {
     }
 
     // The cells of term k's own block, operand by operand.
-    #[tactic(auto, using(crate::proofs::Sizes::seq_cells, crate::proofs::Sizes::par_cells, crate::proofs::Sizes::ite_cells, crate::proofs::Sizes::rec_cells, crate::proofs::Sizes::leaf_cells,))]
+    #[tactic(auto, using(crate::proofs::Sizes::cells_by_kind))]
     #[cycle(cells)]
     pub fn cells(&self, k: usize) -> u32
         requires { (k < count self.now.numbers.now) × (size (tree self.now.numbers.now k) ≤ 4096) }
@@ -134,7 +134,7 @@ fn framed(width: u32, table: &[u32]) -> Result<(), Refusal>
 }
 
 // 1 to 9, and what is known of each term.
-#[tactic(auto, using(crate::proofs::Whole::frame_refused, crate::proofs::Whole::framed_in, crate::proofs::Whole::scan_refused, crate::proofs::Whole::main_few, crate::proofs::Whole::size_refused, crate::proofs::Whole::all_passed,))]
+#[tactic(auto, using(crate::proofs::Whole::in_order))]
 pub fn check(width: u32, table: &[u32]) -> Result<[Known; 256], Refusal>
     ensures { result ≡ facts_of width table.now }
 {

@@ -3,7 +3,7 @@ use Rattle.std.proofs.Common.{ℕ, ◌+◌, ◌≡◌, ◌≤◌, ◌<◌, List,
 use Rattle.meaning.specs.Terms.{number_of, kind_of}
 use Rattle.meaning.specs.Refusals.{Check, passed}
 use Rattle.meaning.specs.Checks.{operands_of}
-use Rattle.kinds.proofs.Joining.{all-below, one-above, one-more-below, few-operands}
+use Rattle.kinds.proofs.Joining.{all-below, one-above, one-more-below, few_operands}
 use Rattle.tables.specs.Readings.{lower_operands_at}
 use Rattle.tables.proofs.lower_operands.Goals as goal
 
@@ -15,7 +15,7 @@ passes t k j h u = rw (all-below t k (operands_of (kind_of t k)) (λ i l m. h i 
 pub operand-requires : goal.operand-requires
 operand-requires c =
     let uses = c.operands-j-end.ensures ∙ ap operands_of c.number.ensures in
-    (omega (arith, uses, few-operands (kind_of c.args.table.now c.args.k)), c.requires)
+    (omega (arith, uses, few_operands (kind_of c.args.table.now c.args.k)), c.requires)
 
 pub returns-then-operand-k : goal.returns-then-operand-k
 returns-then-operand-k c =
