@@ -2,7 +2,7 @@
 // docs/READING.md: "Term tables", "Cycles".
 #![tactic(auto)]
 
-ghost use Rattle.std.specs.Prelude.{◌≡◌, ◌<◌, ◌≤◌, length};
+ghost use Rattle.std.specs.Prelude.{◌≡◌, ◌<◌, ◌≤◌};
 ghost use Rattle.meaning.specs.Cycles.{leaf_word, leaf_run};
 ghost use Rattle.leaves.specs.Results.{run_from, Leaves, side_by_side};
 
@@ -43,7 +43,7 @@ pub fn leaf(
 
 // The words of the other side, after the first n.
 pub fn join(words: &mut [u32; 16], n: usize, others: &[u32; 16])
-    requires { (n ≤ 16) × (length words.old ≡ 16) × (length others.now ≡ 16) }
+    requires { n ≤ 16 }
     ensures { words.new ≡ side_by_side words.old n others.now }
 {
     words[n..].copy_from_slice(&others[..16 - n]);

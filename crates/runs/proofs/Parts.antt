@@ -1,126 +1,95 @@
--- Law: the parts of a term of a ready table, by the numbers that the code has read. Assumes nothing.
-use Prim.Native.Nat.{ℕ, ◌+◌, ◌*◌, ◌-◌, ◌≤◌, ◌<◌}
-use mathlib.Core.Path.{◌≡◌, ap, ◌∙◌}
-use mathlib.Core.List.{List}
-use native.Mathlib.Omega.{arith}
-use lib.ListN.{length}
-use Rattle.meaning.specs.Choices.{at}
+-- Law: the parts of a term of an accepted table, by the numbers that the code has read. Assumes nothing.
+use Rattle.std.proofs.Common.{ℕ, ◌≤◌, ◌<◌, ◌≡◌, refl, ap, ◌∙◌, List, arith, Ok, Err}
+use Rattle.meaning.specs.declared.Kind.{Kind}
+use Rattle.meaning.specs.declared.Kind.TheVariants as kind
+use Rattle.meaning.specs.declared.Known.{Known}
 use Rattle.meaning.specs.Words.{Words}
 use Rattle.meaning.specs.Terms.{number_of, kind_of, count, seq, par, ite, rec, tree}
+use Rattle.meaning.specs.Kinds.{kind_named}
 use Rattle.meaning.specs.Counts.{outs}
+use Rattle.meaning.specs.Refusals.{Verdict, passed, on_verdict}
+use Rattle.meaning.specs.Checks.{verdict_of}
 use Rattle.meaning.specs.Cycles.{leaf_word, leaf_run, evaluate}
-use Rattle.meaning.proofs.Lists.{padded-length, column-at}
-use Rattle.meaning.proofs.Accepted.{Accepted, accepted}
-use Rattle.meaning.proofs.Rows.{Rows, SeqRow, ParRow, IteRow, RecRow, LeafRow, rows}
-use Rattle.meaning.proofs.Typed.{well, outs-few}
-use Rattle.meaning.proofs.Lengths.{evaluate-length}
+use Rattle.meaning.specs.Answers.{known_facts, facts_of}
+use Rattle.meaning.proofs.Accepted.{Fits, seq-fits, par-fits, ite-fits, rec-fits, const_fits, field_fits, op_fits, Accepted, accepted}
+use Rattle.meaning.proofs.Rows.{Rows, LeafRow, rows}
+use Rattle.meaning.proofs.Typed.{Well, well, outs-few}
+use Rattle.terms.specs.declared.Accepted.{Accepted as Judged}
 use Rattle.leaves.specs.Results.{run_from}
-use Rattle.runs.specs.Runs.{Ready, term_from}
-use Rattle.runs.proofs.Turns.{Gave}
+use Rattle.runs.specs.Runs.{term_from}
 
--- Two operands, and three.
-pub record SeqParts (t : List ℕ) (k f g : ℕ) : Type 0 where
-  pub f_below : f < k
-  pub g_below : g < k
-  pub whole : tree t k ≡ seq (tree t f) (tree t g)
+-- A table whose facts are known is accepted.
+pub known-accepted : (w : ℕ) (t : List ℕ) (facts : List Known) → facts_of w t ≡ Ok facts → Accepted w t
+unfolding facts_of
+known-accepted w t facts known = accepted w t (go (verdict_of w t) known)
+  where
+    go : (v : Verdict) → on_verdict v (Ok (known_facts t)) Err ≡ Ok facts → v ≡ passed
+    go (Ok tt) h = refl
+    go (Err r) h = cc
 
-pub record ParParts (t : List ℕ) (k f g : ℕ) : Type 0 where
-  pub f_below : f < k
-  pub g_below : g < k
-  pub few : outs (tree t f) + outs (tree t g) ≤ 16
-  pub whole : tree t k ≡ par (tree t f) (tree t g)
+-- The operands of a combinator name lower terms.
+fits-below : (w : ℕ) (t : List ℕ) (k : ℕ) → kind_of t k ≤ 4 → Fits w t k →
+    (number_of t k 1 < k) × (number_of t k 2 < k) × (3 ≤ kind_of t k → number_of t k 3 < k)
+fits-below w t k h (seq-fits n z a b p) = (a, b, λ l. absurd (omega arith))
+fits-below w t k h (par-fits n z a b p q) = (a, b, λ l. absurd (omega arith))
+fits-below w t k h (ite-fits n a b c p q r s) = (a, b, λ l. c)
+fits-below w t k h (rec-fits n a b c p q r s) = (a, b, λ l. c)
+fits-below w t k h (const_fits n z l u v) = absurd (omega arith)
+fits-below w t k h (field_fits n z l u v) = absurd (omega arith)
+fits-below w t k h (op_fits l u a b c) = absurd (omega arith)
 
-pub record IteParts (t : List ℕ) (k e f g : ℕ) : Type 0 where
-  pub e_below : e < k
-  pub f_below : f < k
-  pub g_below : g < k
-  pub whole : tree t k ≡ ite (tree t e) (tree t f) (tree t g)
+module _ (w : ℕ) (t : List ℕ) (facts : List Known) (known : facts_of w t ≡ Ok facts) (k : ℕ) (there : k < count t) where
+  pub below : kind_of t k ≤ 4 → (number_of t k 1 < k) × (number_of t k 2 < k) × (3 ≤ kind_of t k → number_of t k 3 < k)
+  below h = fits-below w t k h ((known-accepted w t facts known).fits k there)
 
-pub record RecParts (t : List ℕ) (k e f g : ℕ) : Type 0 where
-  pub e_below : e < k
-  pub f_below : f < k
-  pub g_below : g < k
-  pub whole : tree t k ≡ rec (tree t e) (tree t f) (tree t g)
+  -- A term gives few words.
+  pub few : outs (tree t k) ≤ 16
+  few = (outs-few w t (known-accepted w t facts known) k there).1
 
-module _ {w : ℕ} {t given : List ℕ} (r : Ready w t given) where
-  table : Accepted w t
-  table = accepted w t r.accepted
+pub ruleset parts = (below, few)
 
-  pub wide : w ≤ 32
-  wide = table.wide.1
+-- What the numbers of a term make of it, by its kind.
+module _ (table : Judged) where
+  abbrev t : List ℕ
+  t = table.numbers.now
 
-  module _ (k : ℕ) (l : k < count t) where
-    -- Its four numbers stand in the table, and it stands in the array of counts.
-    pub long : k * 4 + 4 ≤ length t
-    long = omega (arith, table.four)
+  pub judged : Accepted table.width t
+  judged = known-accepted table.width t table.terms.now table.judged
 
-    pub in_array : k < 256
-    in_array = omega (arith, table.some.1)
+  module _ {k : ℕ} (there : k < count t) where
+    row : Rows table.width t k
+    row = rows table.width t k (judged.fits k there)
 
-    row : Rows w t k
-    row = rows w t k (table.fits k l)
+    pub typed : Well table.width (tree t k)
+    typed = well table.width t judged k there
 
-    pub seq-parts : kind_of t k ≡ 1 → (f g : ℕ) → f ≡ number_of t k 1 → g ≡ number_of t k 2 → SeqParts t k f g
-    seq-parts e f g p q =
-        let s : SeqRow t k = row.on_seq e in
-        record { f_below = rw p s.f_below; g_below = rw q s.g_below; whole = rw (p, q) s.decoded }
+    module _ {f g : ℕ} (p : f ≡ number_of t k 1) (q : g ≡ number_of t k 2) where
+      pub seq-tree : kind_of t k ≡ 1 → tree t k ≡ seq (tree t f) (tree t g)
+      seq-tree e = rw (p, q) (row.on_seq e).decoded
 
-    pub par-parts : kind_of t k ≡ 2 → (f g : ℕ) → f ≡ number_of t k 1 → g ≡ number_of t k 2 → ParParts t k f g
-    par-parts e f g p q =
-        let s : ParRow t k = row.on_par e in
-        record {
-          f_below = rw p s.f_below;
-          g_below = rw q s.g_below;
-          few = rw (p, q) s.few;
-          whole = rw (p, q) s.decoded;
-        }
+      pub par-tree : kind_of t k ≡ 2 → tree t k ≡ par (tree t f) (tree t g)
+      par-tree e = rw (p, q) (row.on_par e).decoded
 
-    pub ite-parts : kind_of t k ≡ 3 → (e f g : ℕ) → e ≡ number_of t k 1 → f ≡ number_of t k 2 → g ≡ number_of t k 3 → IteParts t k e f g
-    ite-parts n e f g o p q =
-        let s : IteRow t k = row.on_ite n in
-        record {
-          e_below = rw o s.e_below;
-          f_below = rw p s.f_below;
-          g_below = rw q s.g_below;
-          whole = rw (o, p, q) s.decoded;
-        }
+    module _ {e f g : ℕ} (o : e ≡ number_of t k 1) (p : f ≡ number_of t k 2) (q : g ≡ number_of t k 3) where
+      pub ite-tree : kind_of t k ≡ 3 → tree t k ≡ ite (tree t e) (tree t f) (tree t g)
+      ite-tree n = rw (o, p, q) (row.on_ite n).decoded
 
-    pub rec-parts : kind_of t k ≡ 4 → (e f g : ℕ) → e ≡ number_of t k 1 → f ≡ number_of t k 2 → g ≡ number_of t k 3 → RecParts t k e f g
-    rec-parts n e f g o p q =
-        let s : RecRow t k = row.on_rec n in
-        record {
-          e_below = rw o s.e_below;
-          f_below = rw p s.f_below;
-          g_below = rw q s.g_below;
-          whole = rw (o, p, q) s.decoded;
-        }
+      pub rec-tree : kind_of t k ≡ 4 → tree t k ≡ rec (tree t e) (tree t f) (tree t g)
+      rec-tree n = rw (o, p, q) (row.on_rec n).decoded
 
-    -- A leaf, of which the code has read the kind and b: a Field names one of 16 words, and the tree is the leaf of these numbers.
-    module _ (n b : ℕ) (p : n ≡ kind_of t k) (q : b ≡ number_of t k 2) (one : n ≡ 1 → ⊥) (two : n ≡ 2 → ⊥) (three : n ≡ 3 → ⊥)
-        (four : n ≡ 4 → ⊥) where
-      leaf-row : LeafRow w t k
-      leaf-row = row.on_leaf (λ e. one (p ∙ e)) (λ e. two (p ∙ e)) (λ e. three (p ∙ e)) (λ e. four (p ∙ e))
+    pub leaf-row : {K : Kind} → K ≡ kind_named (kind_of t k) → (K ≡ kind.Seq → ⊥) → (K ≡ kind.Par → ⊥) → (K ≡ kind.Ite → ⊥) →
+        (K ≡ kind.Rec → ⊥) → LeafRow table.width t k
+    leaf-row n a b c d =
+        row.on_leaf (λ e. a (n ∙ ap kind_named e)) (λ e. b (n ∙ ap kind_named e)) (λ e. c (n ∙ ap kind_named e))
+        (λ e. d (n ∙ ap kind_named e))
 
-      pub leaf-small : n < 13 → (n ≡ 9 → ⊥) → b < 16
-      leaf-small h e =
-          let f = leaf-row.field (leaf-row.between (rw p at h) (λ z. e (p ∙ z))) in
-          omega (arith, f.1, f.2)
+-- A leaf, of which the code has read the kind and b: a Field names one of 16 words, and the tree is the leaf of these numbers.
+module _ {w : ℕ} {t : List ℕ} {k : ℕ} (row : LeafRow w t k) {n b : ℕ} (p : n ≡ kind_of t k) (q : b ≡ number_of t k 2) where
+  pub leaf-small : n < 13 → (n ≡ 9 → ⊥) → b < 16
+  leaf-small h e =
+      let f = row.field (row.between (rw p at h) (λ z. e (p ∙ z))) in
+      omega (arith, f.1, f.2)
 
-      pub leaf-from : (start limit : ℕ) (x : Words) → term_from w t k start limit x ≡ run_from (leaf_run (leaf_word w n b)) start limit x
-      unfolding evaluate
-      leaf-from start limit x = rw (p, q, leaf-row.decoded)
-
-    -- How many words the term gives, as the array has it, and how long what it gave is.
-    pub counted : at given k ≡ outs (tree t k)
-    counted = ap (λ (l : List ℕ). at l k) r.counted ∙ column-at outs t table.some.1 k l
-
-    pub given-few : at given k ≤ 16
-    given-few = omega (arith, counted, (outs-few w t table k l).1)
-
-    module _ (start limit : ℕ) (x : Words) (end : ℕ) (array : Words) (p : Gave w (tree t k) start limit x end array) where
-      pub gave-length : length p.words ≡ outs (tree t k)
-      gave-length = evaluate-length (well w t table k l) (limit - start) p.cycles x p.words p.result
-
-      pub array-length : length array ≡ 16
-      array-length =
-          ap length p.held ∙ padded-length 16 p.words (omega (arith, gave-length, (outs-few w t table k l).1))
+  pub leaf-from : (start limit : ℕ) (x : Words) → term_from w t k start limit x ≡ run_from (leaf_run (leaf_word w n b)) start limit x
+  unfolding evaluate
+  leaf-from start limit x = rw (p, q, row.decoded)
