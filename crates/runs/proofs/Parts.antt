@@ -1,5 +1,5 @@
 -- Law: the parts of a term of an accepted table, by the numbers that the code has read. Assumes nothing.
-use Rattle.std.proofs.Common.{ℕ, ◌≤◌, ◌<◌, ◌≡◌, refl, ap, ◌∙◌, List, arith, Ok, Err}
+use Rattle.std.proofs.Common.{ℕ, ◌≤◌, ◌<◌, ◌≡◌, refl, sym, ap, ◌∙◌, List, arith, Ok}
 use Rattle.meaning.specs.declared.Kind.{Kind}
 use Rattle.meaning.specs.declared.Kind.TheVariants as kind
 use Rattle.meaning.specs.declared.Known.{Known}
@@ -7,46 +7,38 @@ use Rattle.meaning.specs.Words.{Words}
 use Rattle.meaning.specs.Terms.{number_of, kind_of, count, seq, par, ite, rec, tree}
 use Rattle.meaning.specs.Kinds.{kind_named}
 use Rattle.meaning.specs.Counts.{outs}
-use Rattle.meaning.specs.Refusals.{Verdict, passed, on_verdict}
-use Rattle.meaning.specs.Checks.{verdict_of}
 use Rattle.meaning.specs.Cycles.{leaf_word, leaf_run, evaluate}
-use Rattle.meaning.specs.Answers.{known_facts, facts_of}
-use Rattle.meaning.proofs.Accepted.{Fits, seq-fits, par-fits, ite-fits, rec-fits, const_fits, field_fits, op_fits, Accepted, accepted}
-use Rattle.meaning.proofs.Rows.{Rows, LeafRow, rows}
+use Rattle.meaning.specs.Answers.{facts_of}
+use Rattle.meaning.proofs.Accepted.{Accepted}
+use Rattle.meaning.proofs.Rows.{LeafRow, rows}
 use Rattle.meaning.proofs.Typed.{Well, well, outs-few}
 use Rattle.terms.specs.declared.Accepted.{Accepted as Judged}
+use Rattle.terms.proofs.Facts as facts
+use Rattle.terms.proofs.Parts.{Parts, parts}
 use Rattle.leaves.specs.Results.{run_from}
 use Rattle.runs.specs.Runs.{term_from}
 
--- A table whose facts are known is accepted.
-pub known-accepted : (w : ℕ) (t : List ℕ) (facts : List Known) → facts_of w t ≡ Ok facts → Accepted w t
-unfolding facts_of
-known-accepted w t facts known = accepted w t (go (verdict_of w t) known)
-  where
-    go : (v : Verdict) → on_verdict v (Ok (known_facts t)) Err ≡ Ok facts → v ≡ passed
-    go (Ok tt) h = refl
-    go (Err r) h = cc
+-- By its kind: lower terms, and the tree over theirs; and a term gives few words.
+module _ (w : ℕ) (t : List ℕ) (terms : List Known) (judged : facts_of w t ≡ Ok terms) (k : ℕ) (there : k < count t) where
+  of-kind : (K : Kind) (n : ℕ) → K ≡ kind_named n → kind_of t k ≡ n → Parts t k K
+  of-kind K n e h = parts t k K (e ∙ sym (ap kind_named h)) ((facts.table w t terms judged).fits k there)
 
--- The operands of a combinator name lower terms.
-fits-below : (w : ℕ) (t : List ℕ) (k : ℕ) → kind_of t k ≤ 4 → Fits w t k →
-    (number_of t k 1 < k) × (number_of t k 2 < k) × (3 ≤ kind_of t k → number_of t k 3 < k)
-fits-below w t k h (seq-fits n z a b p) = (a, b, λ l. absurd (omega arith))
-fits-below w t k h (par-fits n z a b p q) = (a, b, λ l. absurd (omega arith))
-fits-below w t k h (ite-fits n a b c p q r s) = (a, b, λ l. c)
-fits-below w t k h (rec-fits n a b c p q r s) = (a, b, λ l. c)
-fits-below w t k h (const_fits n z l u v) = absurd (omega arith)
-fits-below w t k h (field_fits n z l u v) = absurd (omega arith)
-fits-below w t k h (op_fits l u a b c) = absurd (omega arith)
+  pub seq_parts : kind_of t k ≡ 1 → Parts t k kind.Seq
+  seq_parts = of-kind kind.Seq 1 refl
 
-module _ (w : ℕ) (t : List ℕ) (facts : List Known) (known : facts_of w t ≡ Ok facts) (k : ℕ) (there : k < count t) where
-  pub below : kind_of t k ≤ 4 → (number_of t k 1 < k) × (number_of t k 2 < k) × (3 ≤ kind_of t k → number_of t k 3 < k)
-  below h = fits-below w t k h ((known-accepted w t facts known).fits k there)
+  pub par_parts : kind_of t k ≡ 2 → Parts t k kind.Par
+  par_parts = of-kind kind.Par 2 refl
 
-  -- A term gives few words.
+  pub ite_parts : kind_of t k ≡ 3 → Parts t k kind.Ite
+  ite_parts = of-kind kind.Ite 3 refl
+
+  pub rec_parts : kind_of t k ≡ 4 → Parts t k kind.Rec
+  rec_parts = of-kind kind.Rec 4 refl
+
   pub few : outs (tree t k) ≤ 16
-  few = (outs-few w t (known-accepted w t facts known) k there).1
+  few = (outs-few w t (facts.table w t terms judged) k there).1
 
-pub ruleset parts = (below, few)
+pub ruleset by_kind = (seq_parts, par_parts, ite_parts, rec_parts, few)
 
 -- What the numbers of a term make of it, by its kind.
 module _ (table : Judged) where
@@ -54,32 +46,30 @@ module _ (table : Judged) where
   t = table.numbers.now
 
   pub judged : Accepted table.width t
-  judged = known-accepted table.width t table.terms.now table.judged
+  judged = facts.table table.width t table.terms.now table.judged
 
   module _ {k : ℕ} (there : k < count t) where
-    row : Rows table.width t k
-    row = rows table.width t k (judged.fits k there)
-
     pub typed : Well table.width (tree t k)
     typed = well table.width t judged k there
 
     module _ {f g : ℕ} (p : f ≡ number_of t k 1) (q : g ≡ number_of t k 2) where
       pub seq-tree : kind_of t k ≡ 1 → tree t k ≡ seq (tree t f) (tree t g)
-      seq-tree e = rw (p, q) (row.on_seq e).decoded
+      seq-tree e = rw (p, q) (seq_parts table.width t table.terms.now table.judged k there e).2
 
       pub par-tree : kind_of t k ≡ 2 → tree t k ≡ par (tree t f) (tree t g)
-      par-tree e = rw (p, q) (row.on_par e).decoded
+      par-tree e = rw (p, q) (par_parts table.width t table.terms.now table.judged k there e).2
 
     module _ {e f g : ℕ} (o : e ≡ number_of t k 1) (p : f ≡ number_of t k 2) (q : g ≡ number_of t k 3) where
       pub ite-tree : kind_of t k ≡ 3 → tree t k ≡ ite (tree t e) (tree t f) (tree t g)
-      ite-tree n = rw (o, p, q) (row.on_ite n).decoded
+      ite-tree n = rw (o, p, q) (ite_parts table.width t table.terms.now table.judged k there n).3
 
       pub rec-tree : kind_of t k ≡ 4 → tree t k ≡ rec (tree t e) (tree t f) (tree t g)
-      rec-tree n = rw (o, p, q) (row.on_rec n).decoded
+      rec-tree n = rw (o, p, q) (rec_parts table.width t table.terms.now table.judged k there n).3
 
     pub leaf-row : {K : Kind} → K ≡ kind_named (kind_of t k) → (K ≡ kind.Seq → ⊥) → (K ≡ kind.Par → ⊥) → (K ≡ kind.Ite → ⊥) →
         (K ≡ kind.Rec → ⊥) → LeafRow table.width t k
     leaf-row n a b c d =
+        let row = rows table.width t k (judged.fits k there) in
         row.on_leaf (λ e. a (n ∙ ap kind_named e)) (λ e. b (n ∙ ap kind_named e)) (λ e. c (n ∙ ap kind_named e))
         (λ e. d (n ∙ ap kind_named e))
 

@@ -5,7 +5,7 @@
 //
 //     term     by the kind: the four below, or `leaves::leaf`
 //     seq, par, ite, rounds   the combinators; `rounds` is the round evaluator of Rec
-#![tactic(auto, using(crate::proofs::Parts::parts))]
+#![tactic(auto, using(crate::proofs::Parts::by_kind))]
 
 ghost use Rattle.std.specs.Prelude.{◌≡◌, ◌<◌, ◌≤◌};
 ghost use Rattle.meaning.specs.Terms.{kind_of, count};

@@ -4,7 +4,7 @@ use Rattle.std.proofs.Common.{◌∙◌, arith}
 use Rattle.leaves.proofs.Left.{leaves-as}
 use Rattle.runs.proofs.Turns.{stopped, gave, seq-stops, par-stops-first, ite-stops, rec-stops, seq-goes, par-stops-second, par-ends}
 use Rattle.runs.proofs.Turns.{ite-then, ite-else, rec-last, rec-stops-body, rec-stops-fed, rec-goes}
-use Rattle.runs.proofs.Parts.{judged, leaf-row, leaf-small, leaf-from, seq-tree, par-tree, ite-tree, rec-tree, typed, parts}
+use Rattle.runs.proofs.Parts.{judged, leaf-row, leaf-small, leaf-from, seq-tree, par-tree, ite-tree, rec-tree, typed, by_kind}
 use Rattle.runs.proofs.+ite_par_rounds_seq_term.Goals as goal
 
 pub seq-returns-in_err-end : goal.seq-returns-in_err-end
@@ -13,7 +13,7 @@ seq-returns-in_err-end t c =
     (seq-tree c.args.table.now c.requires.0 c.operand-f.ensures c.operand-g.ensures c.requires.2)
 
 pub seq-term-requires-2 : goal.seq-term-requires-2
-seq-term-requires-2 t c = let p = gave _ _ _ _ _ _ _ c.requires.1 c.in_ok-end.ensures in grind (arith, parts)
+seq-term-requires-2 t c = let p = gave _ _ _ _ _ _ _ c.requires.1 c.in_ok-end.ensures in grind (arith, by_kind)
 
 pub seq-returns : goal.seq-returns
 seq-returns t c =
@@ -44,7 +44,7 @@ ite-returns-in_err-end t c =
     (ite-tree c.args.table.now c.requires.0 c.operand-e.ensures c.operand-f.ensures c.operand-g.ensures c.requires.2)
 
 pub ite-term-requires-then-choice-ne0 : goal.ite-term-requires-then-choice-ne0
-ite-term-requires-then-choice-ne0 t c = let p = gave _ _ _ _ _ _ _ c.requires.1 c.in_ok-end.ensures in grind (arith, parts)
+ite-term-requires-then-choice-ne0 t c = let p = gave _ _ _ _ _ _ _ c.requires.1 c.in_ok-end.ensures in grind (arith, by_kind)
 
 pub ite-returns-then-choice-ne0 : goal.ite-returns-then-choice-ne0
 ite-returns-then-choice-ne0 t c =
@@ -53,7 +53,7 @@ ite-returns-then-choice-ne0 t c =
     c.if-choice-ne0.true c.term-then-choice-ne0.ensures
 
 pub ite-term-requires-else-choice-ne0 : goal.ite-term-requires-else-choice-ne0
-ite-term-requires-else-choice-ne0 t c = let p = gave _ _ _ _ _ _ _ c.requires.1 c.in_ok-end.ensures in grind (arith, parts)
+ite-term-requires-else-choice-ne0 t c = let p = gave _ _ _ _ _ _ _ c.requires.1 c.in_ok-end.ensures in grind (arith, by_kind)
 
 pub ite-returns-else-choice-ne0 : goal.ite-returns-else-choice-ne0
 ite-returns-else-choice-ne0 t c =
@@ -70,7 +70,7 @@ rounds-returns-in_err-tested t c =
 pub rounds-term-requires-then-test-ne0 : goal.rounds-term-requires-then-test-ne0
 rounds-term-requires-then-test-ne0 t c =
     let p = gave _ _ _ _ _ _ _ c.loop-tested.invariant.within c.in_ok-tested.ensures in
-    grind (arith, parts)
+    grind (arith, by_kind)
 
 pub rounds-returns-then-test-ne0 : goal.rounds-returns-then-test-ne0
 rounds-returns-then-test-ne0 t c =
@@ -82,7 +82,7 @@ rounds-returns-then-test-ne0 t c =
 pub rounds-term-requires-in-loop-tested : goal.rounds-term-requires-in-loop-tested
 rounds-term-requires-in-loop-tested t c =
     let p = gave _ _ _ _ _ _ _ c.loop-tested.invariant.within c.in_ok-tested.ensures in
-    grind (arith, parts)
+    grind (arith, by_kind)
 
 pub rounds-returns-in_err-end : goal.rounds-returns-in_err-end
 rounds-returns-in_err-end t c =
