@@ -1,12 +1,11 @@
 -- Law: the evaluator's answer, from the facts of the table, check 11 and what the run of the main term leaves. Assumes nothing.
-use Rattle.std.proofs.Common.{ℕ, ◌-◌, ◌^◌, ◌≤◌, ◌≡◌, refl, sym, ◌∙◌, true, false, List, length, eqb, eqb-true, Option, Some, None, Result, Ok, Err, arith}
+use Rattle.std.proofs.Common.{ℕ, ◌-◌, ◌≤◌, ◌≡◌, refl, sym, ◌∙◌, true, false, List, length, eqb-true, Some, None, Result, Ok, Err, arith}
 use Rattle.meaning.specs.declared.Cause.TheVariants as cause
 use Rattle.meaning.specs.declared.Refusal.{Refusal}
 use Rattle.meaning.specs.declared.Known.{Known}
-use Rattle.meaning.specs.declared.Answer.{Answer}
-use Rattle.meaning.specs.Choices.{padded, all_below}
+use Rattle.meaning.specs.Choices.{padded}
 use Rattle.meaning.specs.Words.{Words}
-use Rattle.meaning.specs.Terms.{count, last_of, tree, main_of}
+use Rattle.meaning.specs.Terms.{last_of, tree, main_of}
 use Rattle.meaning.specs.Counts.{ins, outs}
 use Rattle.meaning.specs.Refusals.{Verdict, passed, refused, on_verdict}
 use Rattle.meaning.specs.Checks.{verdict_of}

@@ -88,8 +88,8 @@ module _ {w : ℕ} {P : Term} {start limit : ℕ} {x : Words} {end : ℕ} {array
       (let t = p.time in rw (← t, left)))
 
 -- The two sides of a Par are well typed, and give few words together.
-par-parts : {w : ℕ} {F G : Term} {i o : ℕ} → Typed w (par F G) i o → Well w F × Well w G × (outs F + outs G ≤ 16)
-par-parts (par_typed a b l f g) = (typed-well f, typed-well g, omega (arith, typed-outs f, typed-outs g))
+par-sides : {w : ℕ} {F G : Term} {i o : ℕ} → Typed w (par F G) i o → Well w F × Well w G × (outs F + outs G ≤ 16)
+par-sides (par_typed a b l f g) = (typed-well f, typed-well g, omega (arith, typed-outs f, typed-outs g))
 
 -- Where the first part is unfinished, so is the combinator.
 module _ {w : ℕ} {F : Term} {start limit : ℕ} {x : Words} (s : Stopped w F start limit x) {T G : Term} {e : Option ℕ} {array : Words}
@@ -123,7 +123,7 @@ module _ {w : ℕ} {F : Term} {start limit : ℕ} {x : Words} {end : ℕ} {y : W
   pub par-ends : {d n last : ℕ} {z array : Words} → Gave w G start limit x d z → T ≡ par F G → Well w T → n ≡ outs F → last ≡ max end d →
       array ≡ side_by_side y n z → Ran w T start limit x (Some last) array
   par-ends {n} {last} {array} r q typed count later same =
-      let t = par-parts (rw q at typed) in
+      let t = par-sides (rw q at typed) in
       let u = evaluate-length t.0 _ p.cycles x p.words p.result in
       let v = evaluate-length t.1 _ r.cycles x r.words r.result in
       let time : last ≡ start + max p.cycles r.cycles = omega (arith, p.time, r.time) in
