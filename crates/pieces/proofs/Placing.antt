@@ -77,15 +77,15 @@ module _ (l : List ℕ) (p : ℕ) (a b : List Cell) (q : ℕ) (e : p + length a 
   seam : p * stride + length (numbers_of a) ≡ q * stride
   seam = omega (arith, numbers-length a)
 
-  written_then : written (written l p a) q b ≡ written l p (a ++ b)
+  pub written_then : written (written l p a) q b ≡ written l p (a ++ b)
   unfolding written
   written_then =
       placed-then (numbers_of a) (numbers_of b) l (p * stride) (q * stride) seam
       ∙ ap (placed l (p * stride)) (sym (numbers-append a b))
 
-  written-before : written (written l q b) p a ≡ written l p (a ++ b)
+  pub written_before : written (written l q b) p a ≡ written l p (a ++ b)
   unfolding written placed
-  written-before =
+  written_before =
       sets-before (numbers_of a) (numbers_of b) l (p * stride) (q * stride) seam
       ∙ ap (placed l (p * stride)) (sym (numbers-append a b))
 
@@ -94,9 +94,4 @@ module _ (l : List ℕ) (p : ℕ) (a b : List Cell) (q : ℕ) (e : p + length a 
   then v w d f = f ∙ (ap (λ (u : List ℕ). written u q b) d ∙ written_then)
 
   pub before : (v w : List ℕ) → v ≡ written l q b → w ≡ written v p a → w ≡ written l p (a ++ b)
-  before v w d f = f ∙ (ap (λ (u : List ℕ). written u p a) d ∙ written-before)
-
--- A turn of a loop that writes: the row and one piece are the longer row.
-module _ (l : List ℕ) (p : ℕ) (row piece longer : List Cell) (q : ℕ) (e : p + length row ≡ q) (s : longer ≡ row ++ piece) where
-  pub row_more : (v w : List ℕ) → v ≡ written l p row → w ≡ written v q piece → w ≡ written l p longer
-  row_more v w a b = then l p row piece q e v w a b ∙ ap (written l p) (sym s)
+  before v w d f = f ∙ (ap (λ (u : List ℕ). written u p a) d ∙ written_before)
