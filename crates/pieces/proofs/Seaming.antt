@@ -18,7 +18,7 @@ module _ (b s : ℕ) (xs : List ℕ) where
   abbrev chosen : List Cell
   chosen = choices b (wires_from (1 after b) (length xs)) xs
 
-  pub chosen-long : length chosen ≡ length xs
+  chosen-long : length chosen ≡ length xs
   chosen-long =
       choices-length (wires_from (1 after b) (length xs)) xs b (wires-length (length xs) (1 after b))
       ∙ wires-length (length xs) (1 after b)

@@ -8,7 +8,7 @@ use native.Mathlib.Omega.{arith}
 use lib.ListN.{length, get_or, set, take, drop, replicate, length-append}
 use lib.Seq.{take_at, set_at, drop-append-add, drop-cons, length-take-le}
 use Rattle.std.specs.List.{range_with_len}
-use Rattle.std.proofs.lemmas.List.{length-map, map_more, take_more}
+use Rattle.std.proofs.lemmas.List.{drop-replicate, length-map, map_more, take_more}
 use Rattle.std.proofs.lemmas.List.FromFn.{length-map-range_with_len, map-range_with_len_more}
 use Rattle.meaning.specs.Choices.{padded}
 use Rattle.meaning.proofs.Lists.{padded-length}
@@ -58,11 +58,6 @@ wires-more : (n p q : ℕ) → p + n ≡ q → wires_from p (suc n) ≡ wires_fr
 wires-more zero p q e = let u : p ≡ q = omega arith in ap (λ (m : ℕ). m ∷ []) u
 wires-more (suc n) p q e = ap (λ (l : List ℕ). p ∷ l) (wires-more n (suc p) q (omega arith))
 
-drop-replicate : (j n m : ℕ) → n ≡ j + m → drop {A = ℕ} j (replicate n 0) ≡ replicate m 0
-drop-replicate zero n m e = let u : n ≡ m = omega arith in ap (λ (k : ℕ). replicate {A = ℕ} k 0) u
-drop-replicate (suc j) zero m e = absurd (omega arith)
-drop-replicate (suc j) (suc n) m e = drop-replicate j n m (omega arith)
-
 -- An array that holds a row, one word longer.
 pub wires-sixteen : (p n : ℕ) → n ≤ 16 → length (padded 16 (wires_from p n)) ≡ 16
 wires-sixteen p n h = padded-length 16 (wires_from p n) (omega (arith, wires-length n p))
@@ -84,13 +79,10 @@ padded-more n i v l e h =
 pub padded-join : (n i : ℕ) (a b : List ℕ) → length a ≡ i → length a + length b ≤ n → placed (padded n a) i b ≡ padded n (a ++ b)
 padded-join n i a b e h =
     let long = padded-length n a (omega arith) in
-    let z : List ℕ = replicate (n - length a) 0 in
+    let left : n - length a - length b ≡ n - length (a ++ b) = omega (arith, length-append a b) in
     let rest : drop (i + length b) (padded n a) ≡ replicate (n - length (a ++ b)) 0 =
-    ap (λ (m : ℕ). drop (m + length b) (a ++ z)) (sym e)
-    ∙ (drop-append-add a z (length b) ∙ (drop-replicate (length b) (n - length a) (n - length (a ++ b))
-    (omega (arith, length-append a b)))) in
-    placed-within b (padded n a) i (omega arith)
-    ∙ rw (rest, padded-first n i a e) refl
+    rw (← e, drop-append-add a (replicate (n - length a) 0) (length b), drop-replicate {X = ℕ} (length b) (n - length a) 0, left) refl in
+    rw (placed-within b (padded n a) i (omega arith), rest, padded-first n i a e) refl
 
 -- A turn of a loop: one cell more, one wire more, one word kept more.
 pub place_turn : (l : List ℕ) (p i : ℕ) (cs : List Written) (d : Written) → i < length cs →
