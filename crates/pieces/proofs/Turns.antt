@@ -8,15 +8,18 @@ use native.Mathlib.Omega.{arith}
 use lib.ListN.{length, get_or, set, take, drop, replicate, length-append}
 use lib.Seq.{take_at, set_at, drop-append-add, drop-cons, length-take-le}
 use Rattle.std.specs.List.{range_with_len}
-use Rattle.std.proofs.lemmas.List.{take_more}
+use Rattle.std.proofs.lemmas.List.{drop-replicate, length-map, map_more, take_more}
+use Rattle.std.proofs.lemmas.List.FromFn.{length-map-range_with_len, map-range_with_len_more}
 use Rattle.meaning.specs.Choices.{padded}
 use Rattle.meaning.proofs.Lists.{padded-length}
+use Rattle.circuit.specs.declared.Cell.{Cell as Written}
+use Rattle.circuit.specs.Gates.{cell_of}
 use Rattle.circuit.specs.Cells.{Cell, word_register, choice_cell, input_cell}
 use Rattle.circuit.specs.Pieces.{◌after◌, wires_from, keeps, kept, choices, registers}
 use Rattle.circuit.specs.Compiling.{input_cells}
-use Rattle.circuit.proofs.Lengths.{keeps-length, kept-length, wires-length}
+use Rattle.circuit.proofs.Lengths.{choices-length, keeps-length, kept-length, wires-length}
 use Rattle.pieces.specs.Writing.{placed, written}
-use Rattle.pieces.proofs.Placing.{row_more, placed-within}
+use Rattle.pieces.proofs.Placing.{written_none, written_then, written_before, copied, placed-within}
 
 -- A row by its numbers, and as a definition has it: R j n is the row of n cells from number j on.
 by-numbers : (f : ℕ → Cell) (R : ℕ → ℕ → List Cell) (m : ℕ) → ((j : ℕ) → R j 0 ≡ []) →
@@ -55,11 +58,6 @@ wires-more : (n p q : ℕ) → p + n ≡ q → wires_from p (suc n) ≡ wires_fr
 wires-more zero p q e = let u : p ≡ q = omega arith in ap (λ (m : ℕ). m ∷ []) u
 wires-more (suc n) p q e = ap (λ (l : List ℕ). p ∷ l) (wires-more n (suc p) q (omega arith))
 
-drop-replicate : (j n m : ℕ) → n ≡ j + m → drop {A = ℕ} j (replicate n 0) ≡ replicate m 0
-drop-replicate zero n m e = let u : n ≡ m = omega arith in ap (λ (k : ℕ). replicate {A = ℕ} k 0) u
-drop-replicate (suc j) zero m e = absurd (omega arith)
-drop-replicate (suc j) (suc n) m e = drop-replicate j n m (omega arith)
-
 -- An array that holds a row, one word longer.
 pub wires-sixteen : (p n : ℕ) → n ≤ 16 → length (padded 16 (wires_from p n)) ≡ 16
 wires-sixteen p n h = padded-length 16 (wires_from p n) (omega (arith, wires-length n p))
@@ -81,37 +79,71 @@ padded-more n i v l e h =
 pub padded-join : (n i : ℕ) (a b : List ℕ) → length a ≡ i → length a + length b ≤ n → placed (padded n a) i b ≡ padded n (a ++ b)
 padded-join n i a b e h =
     let long = padded-length n a (omega arith) in
-    let z : List ℕ = replicate (n - length a) 0 in
+    let left : n - length a - length b ≡ n - length (a ++ b) = omega (arith, length-append a b) in
     let rest : drop (i + length b) (padded n a) ≡ replicate (n - length (a ++ b)) 0 =
-    ap (λ (m : ℕ). drop (m + length b) (a ++ z)) (sym e)
-    ∙ (drop-append-add a z (length b) ∙ (drop-replicate (length b) (n - length a) (n - length (a ++ b))
-    (omega (arith, length-append a b)))) in
-    placed-within b (padded n a) i (omega arith)
-    ∙ rw (rest, padded-first n i a e) refl
+    rw (← e, drop-append-add a (replicate (n - length a) 0) (length b), drop-replicate {X = ℕ} (length b) (n - length a) 0, left) refl in
+    rw (placed-within b (padded n a) i (omega arith), rest, padded-first n i a e) refl
 
--- A turn of a loop over words.
-pub wires-turn : (p j : ℕ) (v : List ℕ) → j < 16 → v ≡ padded 16 (wires_from p j) →
-    set v j (p + j) ≡ padded 16 (wires_from p (j + 1))
-wires-turn p j v h a =
-    rw (a, padded-more 16 j (p + j) (wires_from p j) (wires-length j p) h, add-one j, ← wires-more j p (p + j) refl) refl
+-- A turn of a loop: one cell more, one wire more, one word kept more.
+pub place_turn : (l : List ℕ) (p i : ℕ) (cs : List Written) (d : Written) → i < length cs →
+    written (written l p (map cell_of (take i cs))) (p + i) (cell_of (get_or cs i d) ∷ []) ≡ written l p (map cell_of (take (i + 1) cs))
+place_turn l p i cs d h =
+    rw (
+      written_then l p (map cell_of (take i cs)) (cell_of (get_or cs i d) ∷ []) (p + i)
+          (omega (arith, length-map (take i cs) cell_of, length-take-le i cs (omega arith))),
+      map_more cell_of cs i d h,
+    ) refl
+
+pub row_turn : (l : List ℕ) (p j : ℕ) (row : ℕ → Cell) →
+    written (written l p (map row (range_with_len 0 j))) (p + j) (row j ∷ []) ≡ written l p (map row (range_with_len 0 (j + 1)))
+row_turn l p j row =
+    rw (
+      written_then l p (map row (range_with_len 0 j)) (row j ∷ []) (p + j) (omega (arith, length-map-range_with_len row 0 j)),
+      map-range_with_len_more row 0 j j (omega arith),
+    ) refl
+
+pub wires_turn : (p j : ℕ) → j < 16 → set (padded 16 (wires_from p j)) j (p + j) ≡ padded 16 (wires_from p (j + 1))
+wires_turn p j h =
+    rw (padded-more 16 j (p + j) (wires_from p j) (wires-length j p) h, add-one j, ← wires-more j p (p + j) refl) refl
 
 module _ (xs : List ℕ) (p j : ℕ) (less : j < length xs) where
   long : length (take j xs) ≡ j
   long = length-take-le j xs (omega arith)
 
-  pub keep-turn : (s : ℕ) (l v w : List ℕ) → v ≡ written l p (keeps p s (take j xs)) →
-      w ≡ written v (p + 2 * j) (word_register (p + 2 * j + 1) ∷ choice_cell s (get_or xs j 0) (p + 2 * j) ∷ []) →
-      w ≡ written l p (keeps p s (take (j + 1) xs))
-  keep-turn s l v w a b =
-      row_more l p _ (keeps (p + 2 * j) s (get_or xs j 0 ∷ [])) _ (p + 2 * j) (omega (arith, keeps-length (take j xs) p s, long))
-      (ap (keeps p s) (take_more xs j 0 less) ∙ keeps-append (take j xs) _ p _ s (omega (arith, long))) v w a (rw add-one at b)
-
-  pub kept-turn : (v : List ℕ) → length xs ≤ 16 → v ≡ padded 16 (kept p (take j xs)) →
-      set v j (p + 2 * j) ≡ padded 16 (kept p (take (j + 1) xs))
-  kept-turn v few a =
+  pub keep_turn : (s : ℕ) (l : List ℕ) →
+      written (written l p (keeps p s (take j xs))) (p + 2 * j)
+      (word_register (p + 2 * j + 1) ∷ choice_cell s (get_or xs j 0) (p + 2 * j) ∷ []) ≡
+      written l p (keeps p s (take (j + 1) xs))
+  keep_turn s l =
       rw (
-        a,
+        add-one (p + 2 * j),
+        written_then l p (keeps p s (take j xs)) (keeps (p + 2 * j) s (get_or xs j 0 ∷ [])) (p + 2 * j)
+            (omega (arith, keeps-length (take j xs) p s, long)),
+        take_more xs j 0 less,
+        keeps-append (take j xs) (get_or xs j 0 ∷ []) p (p + 2 * j) s (omega (arith, long)),
+      ) refl
+
+  pub kept_turn : length xs ≤ 16 → set (padded 16 (kept p (take j xs))) j (p + 2 * j) ≡ padded 16 (kept p (take (j + 1) xs))
+  kept_turn few =
+      rw (
         padded-more 16 j (p + 2 * j) (kept p (take j xs)) (kept-length (take j xs) p ∙ long) (omega arith),
         take_more xs j 0 less,
         kept_append (take j xs) (get_or xs j 0 ∷ []) p (p + 2 * j) (omega (arith, long)),
       ) refl
+
+-- What the goals of this crate come to: parts written one behind the other, turns of loops, and how long rows are.
+pub ruleset writes = (
+  written_none,
+  written_then,
+  written_before,
+  copied,
+  place_turn,
+  row_turn,
+  wires_turn,
+  keep_turn,
+  kept_turn,
+  padded-first,
+  wires-length,
+  choices-length,
+  length-take-le,
+)

@@ -18,6 +18,7 @@ pub fn wide(x: u32) -> usize
 }
 
 // Writes one cell.
+#[tactic(auto, unfolding(crate::specs::Writing::written), using(crate::proofs::Placing::copied))]
 pub fn put(netlist: &mut [u32], at: u32, kind: u32, x: u32, y: u32, z: u32)
     requires { Room netlist.old at 1 }
     ensures { netlist.new

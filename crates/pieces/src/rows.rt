@@ -5,7 +5,6 @@
 ghost use Rattle.std.specs.Prelude.{◌≡◌, ◌+◌, ◌*◌, ◌<◌, ◌≤◌, ℕ, length, map, take};
 ghost use Rattle.std.specs.List.{range_with_len};
 ghost use Rattle.meaning.specs.Choices.{padded};
-ghost use Rattle.circuit.specs.Cells.{Cell as Written};
 ghost use Rattle.circuit.specs.Gates.{cell_of};
 ghost use Rattle.circuit.specs.Pieces.{wires_from, keeps, kept, choices, «registers»};
 ghost use Rattle.circuit.specs.Compiling.{input_cells};
@@ -48,11 +47,11 @@ pub fn keep(
     }
 }
 
-// A cell for each number below n.
+// A cell for each number below n: any row of which the closure gives the cells is written.
 fn place_each<F: Fn(u32) -> Cell>(netlist: &mut [u32], at: u32, n: u32, cell: F)
     requires callable { (j : ℕ) → j < n → F.pre cell j }
     requires room { Room netlist.old at n }
-    ensures { (row : ℕ → Written)
+    ensures { (row : ℕ → _)
         → ((j : ℕ) (c : _) → j < n → F.post cell j c → cell_of c ≡ row j)
         → netlist.new ≡ written netlist.old at (map row (range_with_len 0 n)) }
 {

@@ -85,11 +85,8 @@ pub fn merge(
         (merge_cells both (take m words.old) (take m others.now))) }
 {
     let p = both.next;
-    place_all(
-        netlist,
-        p,
-        &[Cell::And(both.tested, both.left), Cell::And(p, both.again)],
-    );
+    let dones = [Cell::And(both.tested, both.left), Cell::And(p, both.again)];
+    place_all(netlist, p, &dones);
     choose(netlist, p + 2, both.gate + 3, words, others, m);
     wires(words, p + 2, m);
     Made {
