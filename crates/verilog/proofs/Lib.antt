@@ -1,5 +1,4 @@
 -- What is shown of the definitions.
 pub mod Cases
-pub mod Rows
 pub mod Answering
 pub mod Unique

@@ -6,31 +6,14 @@ mod lines;
 mod templates;
 
 ghost use Rattle.std.specs.Prelude.{◌≡◌, length};
-ghost use Rattle.meaning.specs.Answers.{on_verdict};
-ghost use Rattle.verilog.specs.declared.Written.TheVariants as written;
-ghost use Rattle.verilog.specs.Writing.{written_of, text_after, passed_on};
+ghost use Rattle.verilog.specs.Writing.{written_of, text_after};
 
-use meaning::Verdict;
+use lines::Design;
+use meaning::{Cause, Refusal};
 
-// The writer's answer: the text's length, or a refusal.
-#[derive(Clone, Copy)]
-pub enum Written {
-    Length(u32),
-    Refused(u32, u32),
-}
-
-// A refusal of the netlist, passed on.
-fn refused(verdict: Verdict) -> Written
-    ensures { result ≡ passed_on verdict }
-{
-    match verdict {
-        Verdict::Refused(n, p) => Written::Refused(n, p),
-        Verdict::Accepted => Written::Length(0),
-    }
-}
-
-// Writes the text of a netlist with these ports. Its length is counted before the first byte is
-// written.
+// Writes the text of a netlist with these ports, and answers its length, which is counted before
+// the first byte is written.
+#[tactic(auto, using(crate::proofs::Answering::by_steps))]
 pub fn write(
     width: u32,
     netlist: &[u32],
@@ -39,22 +22,26 @@ pub fn write(
     done: u32,
     outs: &[u32; 16],
     text: &mut [u8],
-) -> Written
+) -> Result<u32, Refusal>
     ensures value { result ≡ written_of width netlist.now i o done outs.now (length text.old) }
     ensures text_after { text.new ≡ text_after width netlist.now i o done outs.now text.old }
 {
-    let verdict = cells::check(width, netlist);
-    let Verdict::Accepted = verdict else {
-        return refused(verdict);
-    };
+    cells::check(width, netlist)?;
     if !ports::fit(netlist, i, o, done, outs) {
-        return Written::Refused(19, 0);
+        return Err(Cause::Ports.into());
     }
-    let mut short = [0u8; 1];
-    let length = lines::whole(&mut short, width, netlist, i, o, done, outs);
+    let design = Design {
+        width,
+        netlist,
+        i,
+        o,
+        done,
+        outs,
+    };
+    let length = design.whole(&mut []);
     if text.len() < length {
-        return Written::Refused(20, 0);
+        return Err(Cause::TextRoom.into());
     }
-    lines::whole(text, width, netlist, i, o, done, outs);
-    Written::Length(length as u32)
+    design.whole(text);
+    Ok(length as u32)
 }

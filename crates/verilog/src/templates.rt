@@ -1,53 +1,52 @@
-// The declarations of cells as a table of templates, a row for each kind. docs/READING.md: "The
-// Verilog text".
-ghost use Rattle.std.specs.Prelude.{◌≡◌, ◌++◌, ◌-◌, ◌≤◌, length as length_of, replicate};
-ghost use Rattle.spelling.specs.Pieces.{bytes};
-ghost use Rattle.verilog.specs.Lines.{declaration};
+// The lines of cells as templates, by their kinds. docs/READING.md: "The Verilog text".
+ghost use Rattle.std.specs.Prelude.{◌≡◌, ◌≤◌, length};
+ghost use Rattle.verilog.specs.Lines.{declaration, clock_line};
 
-// Each row is filled up with spaces; 7 is no kind, and has no template.
-const ROWS: [[u8; 32]; 23] = [
-    *b"  wire wN = load;\n              ",
-    *b"  wire wN = !wX;\n               ",
-    *b"  wire wN = wX & wY;\n           ",
-    *b"  wire wN = wX | wY;\n           ",
-    *b"  reg wN = 0;\n                  ",
-    *b"  reg wN = 1;\n                  ",
-    *b"  wire wN = wX != 0;\n           ",
-    *b"                                ",
-    *b"  wire [T:0] wN = inpX;\n        ",
-    *b"  wire [T:0] wN = W'dX;\n        ",
-    *b"  reg [T:0] wN = 0;\n            ",
-    *b"  wire [T:0] wN = wX ? wY : wZ;\n",
-    *b"  wire [T:0] wN = wX;\n          ",
-    *b"  wire [T:0] wN = wX + wY;\n     ",
-    *b"  wire [T:0] wN = wX - wY;\n     ",
-    *b"  wire [T:0] wN = wX & wY;\n     ",
-    *b"  wire [T:0] wN = wX | wY;\n     ",
-    *b"  wire [T:0] wN = wX ^ wY;\n     ",
-    *b"  wire [T:0] wN = wX == wY;\n    ",
-    *b"  wire [T:0] wN = wX < wY;\n     ",
-    *b"  wire [T:0] wN = ~wX;\n         ",
-    *b"  wire [T:0] wN = wX << 1;\n     ",
-    *b"  wire [T:0] wN = wX >> 1;\n     ",
-];
+use circuit::Gate;
 
-// How many bytes of each row are its template.
-const LENGTHS: [usize; 23] = [
-    18, 17, 21, 21, 14, 14, 21, 0, 24, 24, 20, 32, 22, 27, 27, 27, 27, 27, 28, 27, 23, 27, 27,
-];
-
-// A kind's template, and spaces after it.
-pub fn row(kind: u32) -> [u8; 32]
-    requires { kind ≤ 22 }
-    ensures { result ≡ bytes (declaration kind) ++ replicate (32 - length_of (bytes (declaration kind))) 32 }
+// The declaration of a cell of this kind; what is no kind has none.
+#[tactic(auto, unfolding(crate::specs::Lines::declaration, crate::specs::Lines::operation_line))]
+pub fn declaration(kind: u32) -> &'static [u8]
+    ensures text { result.now ≡ declaration kind }
+    ensures short { length result.now ≤ 64 }
 {
-    ROWS[kind as usize]
+    match kind {
+        0 => b"  wire wN = load;\n",
+        1 => b"  wire wN = !wX;\n",
+        2 => b"  wire wN = wX & wY;\n",
+        3 => b"  wire wN = wX | wY;\n",
+        4 => b"  reg wN = 0;\n",
+        5 => b"  reg wN = 1;\n",
+        6 => b"  wire wN = wX != 0;\n",
+        8 => b"  wire [T:0] wN = inpX;\n",
+        9 => b"  wire [T:0] wN = W'dX;\n",
+        10 => b"  reg [T:0] wN = 0;\n",
+        11 => b"  wire [T:0] wN = wX ? wY : wZ;\n",
+        12 => b"  wire [T:0] wN = wX;\n",
+        13 => b"  wire [T:0] wN = wX + wY;\n",
+        14 => b"  wire [T:0] wN = wX - wY;\n",
+        15 => b"  wire [T:0] wN = wX & wY;\n",
+        16 => b"  wire [T:0] wN = wX | wY;\n",
+        17 => b"  wire [T:0] wN = wX ^ wY;\n",
+        18 => b"  wire [T:0] wN = wX == wY;\n",
+        19 => b"  wire [T:0] wN = wX < wY;\n",
+        20 => b"  wire [T:0] wN = ~wX;\n",
+        21 => b"  wire [T:0] wN = wX << 1;\n",
+        22 => b"  wire [T:0] wN = wX >> 1;\n",
+        _ => b"",
+    }
 }
 
-// How long a kind's template is.
-pub fn length(kind: u32) -> usize
-    requires { kind ≤ 22 }
-    ensures { result ≡ length_of (bytes (declaration kind)) }
+// The clock line of a register; other cells have none.
+#[tactic(auto, unfolding(crate::specs::Lines::clock_line))]
+pub fn clock_line(kind: u32) -> &'static [u8]
+    ensures text { result.now ≡ clock_line kind }
+    ensures short { length result.now ≤ 64 }
 {
-    LENGTHS[kind as usize]
+    match Gate::from(kind) {
+        Gate::LowRegister | Gate::HighRegister | Gate::WordRegister => {
+            b"  always @(posedge clk) wN <= wX;\n"
+        }
+        _ => b"",
+    }
 }
