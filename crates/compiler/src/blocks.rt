@@ -8,9 +8,9 @@
 //     leaf     9 and above
 //     seq par  two operands
 //     ite rec  a test and two branches, which `fork` emits
-ghost use Rattle.std.specs.Prelude.{◌≡◌};
-ghost use Rattle.meaning.specs.Terms.{kind_of, tree};
-ghost use Rattle.compiler.specs.Building.{Ready, Emits, ForkReady, Forks, fork_at};
+ghost use Rattle.meaning.specs.Terms.{tree};
+ghost use Rattle.compiler.specs.Building.{Ready, ReadyAs, Emits, ForkReady, Forks, fork_size};
+ghost use Rattle.compiler.specs.Building.{fork_at};
 
 use circuit::Cell;
 use meaning::Kind;
@@ -30,8 +30,7 @@ fn seq(
     start: u32,
     words: &mut [u32; 16],
 ) -> Made
-    requires { (Ready table.now.numbers.now k netlist.old at)
-        × (kind_of table.now.numbers.now k ≡ 1) }
+    requires { ReadyAs Kind.Seq table.now.numbers.now k netlist.old at }
     ensures { Emits (tree table.now.numbers.now k) at start words.old
         netlist.old netlist.new words.new result }
 {
@@ -59,8 +58,7 @@ fn par(
     start: u32,
     words: &mut [u32; 16],
 ) -> Made
-    requires { (Ready table.now.numbers.now k netlist.old at)
-        × (kind_of table.now.numbers.now k ≡ 2) }
+    requires { ReadyAs Kind.Par table.now.numbers.now k netlist.old at }
     ensures { Emits (tree table.now.numbers.now k) at start words.old
         netlist.old netlist.new words.new result }
 {
@@ -92,7 +90,7 @@ fn fork(
 ) -> Forked
     requires { ForkReady table.now.numbers.now k netlist.old at }
     ensures { Forks (fork_at table.now.numbers.now k at start live.old kept.old) at
-        netlist.old netlist.new live.new kept.new result }
+        (fork_size table.now.numbers.now k) netlist.old netlist.new live.new kept.new result }
 {
     let e = table.operand(k, 1);
     let f = table.operand(k, 2);
@@ -123,8 +121,7 @@ fn ite(
     start: u32,
     words: &mut [u32; 16],
 ) -> Made
-    requires { (Ready table.now.numbers.now k netlist.old at)
-        × (kind_of table.now.numbers.now k ≡ 3) }
+    requires { ReadyAs Kind.Ite table.now.numbers.now k netlist.old at }
     ensures { Emits (tree table.now.numbers.now k) at start words.old
         netlist.old netlist.new words.new result }
 {
@@ -146,8 +143,7 @@ fn rec(
     start: u32,
     words: &mut [u32; 16],
 ) -> Made
-    requires { (Ready table.now.numbers.now k netlist.old at)
-        × (kind_of table.now.numbers.now k ≡ 4) }
+    requires { ReadyAs Kind.Rec table.now.numbers.now k netlist.old at }
     ensures { Emits (tree table.now.numbers.now k) at start words.old
         netlist.old netlist.new words.new result }
 {

@@ -6,7 +6,7 @@
 //     size      the cells that the memory has to hold
 //     whole     load, the inputs, the main block, and in front of that what reads its done wire
 //     blocks    the block of a term: its operands' blocks, and the pieces that join them
-#![tactic(auto)]
+#![tactic(auto, using(crate::proofs::Terms::parts))]
 
 pub mod blocks;
 
