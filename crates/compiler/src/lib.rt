@@ -18,7 +18,7 @@ ghost use Rattle.pieces.specs.Writing.{written, Room};
 
 use circuit::{Cell, Compiled};
 use meaning::{Cause, Refusal};
-use pieces::cells::{front, place, wide};
+use pieces::cells::{front, place};
 use pieces::rows::{inputs, wires};
 use terms::Accepted;
 
@@ -67,7 +67,7 @@ pub fn compile(width: u32, table: &[u32], netlist: &mut [u32]) -> Result<Compile
         numbers: table,
         terms: &terms,
     };
-    if netlist.len() < wide(size(&accepted)) * 4 {
+    if netlist.len() < size(&accepted) as usize * 4 {
         return Err(Cause::NetlistRoom.into());
     }
     Ok(whole(&accepted, netlist))

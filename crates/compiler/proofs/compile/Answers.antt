@@ -10,8 +10,8 @@ returns-in_err-terms c =
     let p = err_from_is_err_and c.from_residual.result c.from_residual.ensures.1 in
     rw (p.1, p.2) (refused-answer c.args.width c.args.table.now _ _ (sym c.in_err-terms.ensures))
 
-pub returns-then-netlist-wide : goal.returns-then-netlist-wide
-returns-then-netlist-wide c =
+pub returns-then-netlist-size : goal.returns-then-netlist-size
+returns-then-netlist-size c =
     rw c.into.ensures (short-answer c.args.width c.args.table.now c.args.netlist.now _ (sym c.in_ok-terms.ensures) (omega arith))
 
 pub returns : goal.returns
