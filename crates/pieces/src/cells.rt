@@ -10,13 +10,6 @@ ghost use Rattle.pieces.specs.Writing.{written, Room, gates_on, ending_on};
 
 use circuit::Cell;
 
-// A number as one that can index.
-pub fn wide(x: u32) -> usize
-    ensures { result ≡ x }
-{
-    x as usize
-}
-
 // Writes one cell.
 #[tactic(auto, unfolding(crate::specs::Writing::written), using(crate::proofs::Placing::copied))]
 pub fn put(netlist: &mut [u32], at: u32, kind: u32, x: u32, y: u32, z: u32)
