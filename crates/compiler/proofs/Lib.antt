@@ -1,9 +1,9 @@
 -- What is shown of the compiler's parts.
+pub mod Typing
 pub mod Leaves
 pub mod Pairs
 pub mod Forking
 pub mod Loops
-pub mod Plans
-pub mod Rooms
+pub mod Terms
 pub mod Circuits
 pub mod Unique

@@ -6,7 +6,7 @@ use native.Mathlib.Omega.{arith}
 use lib.ListN.{length, take}
 use Rattle.meaning.specs.Choices.{padded}
 use Rattle.meaning.specs.Terms.{Term, rec}
-use Rattle.meaning.specs.Counts.{ins, outs}
+use Rattle.meaning.specs.Counts.{ins, size}
 use Rattle.meaning.proofs.Typed.{Well}
 use Rattle.circuit.specs.Cells.{Cell, or_cell, low_register}
 use Rattle.circuit.specs.Pieces.{◌after◌, Emitter, wires_from, keeps, choices, registers, ending}
@@ -20,8 +20,9 @@ use Rattle.pieces.proofs.Placing.{plus-after, then, before}
 use Rattle.pieces.proofs.Turns.{padded-first}
 use Rattle.pieces.proofs.Seaming.{round-long}
 use Rattle.compiler.specs.Building.{Emits, Fork, fork_of, fork_cells, Forks}
+use Rattle.compiler.proofs.Typing.{rec-branches, rec-returns}
 use Rattle.compiler.proofs.Pairs.{first-long}
-use Rattle.compiler.proofs.Forking.{fork_ends, fork-behind, fork-next, no-outs}
+use Rattle.compiler.proofs.Forking.{fork_ends, fork-behind, no-outs}
 
 -- In the definition's own terms: the round, the fork from `start` on, the ending, and in front what reads g.
 module _ (e f g : Emitter) (b s : ℕ) (xs : List ℕ) where
@@ -64,14 +65,12 @@ module _ (e f g : Emitter) (b s : ℕ) (xs : List ℕ) where
       ∙ ap (λ (cs : List Cell). written l b (fed ++ (or_cell s b ∷ cs))) (append_assoc chosen held (fork_cells rec_fork ++ rec_end)
       ∙ ap (λ (cs : List Cell). chosen ++ (held ++ cs)) (fork-behind e f g start round.o round.us round.ks rec_end))
 
--- From what its calls left: i is the count as the code has it, o and n the places, and a its answer.
-module _ {w : ℕ} {e f g : Term} (he : Well w e) (hf : Well w f) (hg : Well w g) (same_f : ins e ≡ ins f) (same_g : ins e ≡ ins g)
-    (back : outs g ≡ ins e) (p s : ℕ) (words : List ℕ) (long : length words ≡ 16) (i o n : ℕ) (i-is : i ≡ ins e)
-    (o_is : o ≡ p + 1 + i) (n-is : n ≡ p + 2 + 4 * i) (l v1 v2 v3 live kw ends feeds : List ℕ) (r : Forked) (a : Made)
-    (R1 : live ≡ padded 16 (round_of p s (take i words)).us) (R2 : kw ≡ padded 16 (round_of p s (take i words)).ks)
-    (R3 : v1 ≡ written l o (round_of p s (take i words)).cells)
-    (B : Forks (fork_of (emit e) (emit f) (emit g) n o (take (ins e) live) (take (ins e) kw)) n v1 v2 ends feeds r)
-    (A : a ≡ record { next = r.next + 7; done = r.next + 6 })
+-- From what its calls left: i is the count as the code has it, and a its answer.
+module _ {w : ℕ} {e f g : Term} (h : Well w (rec e f g)) (p s : ℕ) (words l : List ℕ) {v1 v2 v3 live kw ends feeds : List ℕ} {r : Forked}
+    {a : Made} {i : ℕ} (long : length words ≡ 16) (i-is : i ≡ ins e) (R1 : live ≡ padded 16 (round_of p s (take i words)).us)
+    (R2 : kw ≡ padded 16 (round_of p s (take i words)).ks) (R3 : v1 ≡ written l (p + 1 + i) (round_of p s (take i words)).cells)
+    (B : Forks (fork_of (emit e) (emit f) (emit g) (p + 2 + 4 * i) (p + 1 + i) (take (ins e) live) (take (ins e) kw)) (p + 2 + 4 * i)
+    (size e + 7 + size f + size g) v1 v2 ends feeds r) (A : a ≡ record { next = r.next + 7; done = r.next + 6 })
     (F : v3 ≡ written (written v2 r.next (ending_on r.next r.tested r.left r.again)) p
     (low_register (r.next + 2) ∷ registers (take i feeds))) where
   abbrev xs : List ℕ
@@ -87,7 +86,7 @@ module _ {w : ℕ} {e f g : Term} (he : Well w e) (hf : Well w f) (hg : Well w g
   K = rec_fork (emit e) (emit f) (emit g) p s xs
 
   xs-long : length xs ≡ ins e
-  xs-long = first-long he p s words long
+  xs-long = first-long (rec-branches h).test words long
 
   us-long : length P.us ≡ ins e
   us-long = wires-length (length xs) (1 after P.o) ∙ xs-long
@@ -101,17 +100,17 @@ module _ {w : ℕ} {e f g : Term} (he : Well w e) (hf : Well w f) (hg : Well w g
   kept-is : take (ins e) kw ≡ P.ks
   kept-is = ap (take (ins e)) (R2 ∙ rw i-is refl) ∙ padded-first 16 (ins e) P.ks ks-long
 
-  o-at : o ≡ P.o
+  o-at : p + 1 + i ≡ P.o
   o-at = omega (arith, i-is, xs-long)
 
-  n-at : n ≡ first
+  n-at : p + 2 + 4 * i ≡ first
   n-at = omega (arith, start_is (emit e) (emit f) (emit g) p s xs, i-is, xs-long)
 
-  forked : Forks K first v1 v2 ends feeds r
+  forked : Forks K first (size e + 7 + size f + size g) v1 v2 ends feeds r
   forked = rw (live-is, kept-is, n-at, o-at) at B
 
   feeds-long : length K.no.outs ≡ ins e
-  feeds-long = no-outs he hf hg same_f same_g first P.o P.us P.ks us-long ks-long ∙ back
+  feeds-long = no-outs (rec-branches h) first P.o P.us P.ks ks-long ∙ rec-returns h
 
   feeds-are : take i feeds ≡ K.no.outs
   feeds-are = ap (take i) forked.no ∙ padded-first 16 i K.no.outs (feeds-long ∙ sym i-is)
@@ -121,13 +120,13 @@ module _ {w : ℕ} {e f g : Term} (he : Well w e) (hf : Well w f) (hg : Well w g
     next = omega (
       arith,
       ap (λ (m : Made). m.next) A,
-      forked.next,
-      fork-next he hf hg same_f same_g first P.o P.us P.ks us-long ks-long,
+      forked.past,
       start_is (emit e) (emit f) (emit g) p s xs,
       xs-long,
     );
     done = ap (λ (m : Made). m.done) A ∙ plus-after 6 r.next ∙ ap (λ (m : ℕ). 6 after m) forked.next;
     outs = forked.yes;
-    net = rec-cells (emit e) (emit f) (emit g) p s xs l v1 v2 v3 (feeds-long ∙ sym xs-long) (R3 ∙ rw (i-is, o-at) refl) forked.net
+    sixteen = forked.sixteen.0;
+    net = rec-cells (emit e) (emit f) (emit g) p s xs l v1 v2 v3 (feeds-long ∙ sym xs-long) (R3 ∙ rw (o-at, i-is) refl) forked.net
         (F ∙ rw (feeds-are, forked.next, forked.tested, forked.left, forked.again, plus-after 2 K.next) refl);
   }

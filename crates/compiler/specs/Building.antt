@@ -1,12 +1,12 @@
 -- Building: what the block of a term needs before it is emitted, and what stands in the netlist afterwards. Definitions only.
--- Read after: `Writing`, circuit's `Blocks`, meaning's `Answers`. Assumes nothing.
-use Rattle.std.specs.Prelude.{ℕ, ◌+◌, ◌≤◌, ◌<◌, ◌≡◌, List, ◌++◌, length, take}
-use Rattle.meaning.specs.declared.Verdict.TheVariants as verdict
+-- Read after: `Writing`, circuit's `Blocks`. Assumes nothing.
+use Rattle.std.specs.Prelude.{ℕ, ◌+◌, ◌<◌, ◌≡◌, List, ◌++◌, length, take}
 use Rattle.meaning.specs.Choices.{padded}
-use Rattle.meaning.specs.Terms.{kind_of, count, Term, tree}
-use Rattle.meaning.specs.Counts.{ins, outs, size, whole_size}
-use Rattle.meaning.specs.Checks.{verdict_of, operand_tree}
-use Rattle.meaning.specs.Answers.{column}
+use Rattle.meaning.specs.declared.Kind.{Kind}
+use Rattle.meaning.specs.Kinds.{kind_named}
+use Rattle.meaning.specs.Terms.{number_of, kind_of, count, Term, tree}
+use Rattle.meaning.specs.Counts.{ins, size}
+use Rattle.meaning.specs.Checks.{operand_tree}
 use Rattle.circuit.specs.Cells.{Cell}
 use Rattle.circuit.specs.Pieces.{◌after◌, Block, Emitter, gates}
 use Rattle.circuit.specs.Blocks.{emit}
@@ -14,29 +14,26 @@ use Rattle.pieces.specs.declared.leaves.Made.{Made}
 use Rattle.pieces.specs.declared.seams.Forked.{Forked}
 use Rattle.pieces.specs.Writing.{written, Room}
 
--- Term k of a table that some width accepts, with the table's counts of words in and out in arrays.
-pub record Known (t is os : List ℕ) (k : ℕ) : Type 0 where
-  pub width : ℕ
-  pub accepted : verdict_of width t ≡ verdict.Accepted
-  pub takes : is ≡ column ins t
-  pub gives : os ≡ column outs t
+-- Term k of a table can be emitted at p; and one of kind K can.
+pub record Ready (t : List ℕ) (k : ℕ) (net : List ℕ) (p : ℕ) : Type 0 where
   pub there : k < count t
-
--- It can be emitted at p.
-pub record Ready (t is os : List ℕ) (k : ℕ) (net : List ℕ) (p : ℕ) (words : List ℕ) : Type 0 where
-  pub known : Known t is os k
   pub room : Room net p (size (tree t k))
-  pub sixteen : length words ≡ 16
+
+pub record ReadyAs (K : Kind) (t : List ℕ) (k : ℕ) (net : List ℕ) (p : ℕ) : Type 0 where
+  pub kind : kind_named (kind_of t k) ≡ K
+  pub there : k < count t
+  pub room : Room net p (size (tree t k))
 
 -- The block of a term on the first of 16 wires, as many as it takes.
 abbrev pub block_of : Term → ℕ → ℕ → List ℕ → Block
 block_of T p s words = emit T p s (take (ins T) words)
 
--- The block of T stands at p, the row has its output wires, and the answer what follows it and its done wire.
+-- The block of T stands at p, the row of 16 has its output wires, and the answer what follows it and its done wire.
 pub record Emits (T : Term) (p s : ℕ) (words old new row : List ℕ) (r : Made) : Type 0 where
   pub next : r.next ≡ p + size T
   pub done : r.done ≡ (block_of T p s words).done
   pub outs : row ≡ padded 16 (block_of T p s words).outs
+  pub sixteen : length row ≡ 16
   pub net : new ≡ written old p (block_of T p s words).cells
 
 -- A test and its two branches, as Ite and Rec share them: e's block, its gates at `gate`, the blocks of f and g, and what follows.
@@ -59,12 +56,16 @@ fork_of e f g n s us ks =
 abbrev pub fork_cells : Fork → List Cell
 fork_cells B = B.test.cells ++ (gates B.gate B.test ++ (B.yes.cells ++ B.no.cells))
 
--- The operands of term k, an Ite or a Rec, can be emitted so from p on.
-pub record ForkReady (t is os : List ℕ) (k : ℕ) (net : List ℕ) (p : ℕ) (live kept : List ℕ) : Type 0 where
-  pub known : Known t is os k
-  pub tests : (3 ≤ kind_of t k) × (kind_of t k ≤ 4)
-  pub room : Room net p (size (operand_tree t k 1) + 7 + size (operand_tree t k 2) + size (operand_tree t k 3))
-  pub sixteen : (length live ≡ 16) × (length kept ≡ 16)
+-- How many cells a fork of term k's operands has.
+abbrev pub fork_size : List ℕ → ℕ → ℕ
+fork_size t k = size (operand_tree t k 1) + 7 + size (operand_tree t k 2) + size (operand_tree t k 3)
+
+-- They, lower terms that take the same words, can be emitted so from p on.
+pub record ForkReady (t : List ℕ) (k : ℕ) (net : List ℕ) (p : ℕ) : Type 0 where
+  pub there : k < count t
+  pub lower : (number_of t k 1 < k) × (number_of t k 2 < k) × (number_of t k 3 < k)
+  pub same : (ins (operand_tree t k 1) ≡ ins (operand_tree t k 2)) × (ins (operand_tree t k 1) ≡ ins (operand_tree t k 3))
+  pub room : Room net p (fork_size t k)
 
 -- The fork of term k's operands, on as many of the live and of the kept wires as the test takes.
 abbrev pub fork_at : List ℕ → ℕ → ℕ → ℕ → List ℕ → List ℕ → Fork
@@ -72,18 +73,15 @@ fork_at t k p s live kept =
     fork_of (emit (operand_tree t k 1)) (emit (operand_tree t k 2)) (emit (operand_tree t k 3)) p s
     (take (ins (operand_tree t k 1)) live) (take (ins (operand_tree t k 1)) kept)
 
--- It stands at p, the rows have the output wires of both branches, and the answer its other wires.
-pub record Forks (B : Fork) (p : ℕ) (old new ends feeds : List ℕ) (r : Forked) : Type 0 where
+-- It stands at p and has n cells, the rows of 16 have the output wires of both branches, and the answer its other wires.
+pub record Forks (B : Fork) (p n : ℕ) (old new ends feeds : List ℕ) (r : Forked) : Type 0 where
   pub gate : r.gate ≡ B.gate
   pub next : r.next ≡ B.next
+  pub past : r.next ≡ p + n
   pub tested : r.tested ≡ B.test.done
   pub left : r.left ≡ B.yes.done
   pub again : r.again ≡ B.no.done
   pub yes : ends ≡ padded 16 B.yes.outs
   pub no : feeds ≡ padded 16 B.no.outs
+  pub sixteen : (length ends ≡ 16) × (length feeds ≡ 16)
   pub net : new ≡ written old p (fork_cells B)
-
--- The whole circuit of term k has room from the first cell on.
-pub record WholeReady (t is os : List ℕ) (k : ℕ) (net : List ℕ) : Type 0 where
-  pub known : Known t is os k
-  pub room : Room net 0 (whole_size (tree t k))

@@ -8,41 +8,40 @@
 //     leaf     9 and above
 //     seq par  two operands
 //     ite rec  a test and two branches, which `fork` emits
-ghost use Rattle.std.specs.Prelude.{◌≡◌};
-ghost use Rattle.meaning.specs.Terms.{kind_of, tree};
-ghost use Rattle.compiler.specs.Building.{Ready, Emits, ForkReady, Forks, fork_at};
+ghost use Rattle.meaning.specs.Terms.{tree};
+ghost use Rattle.compiler.specs.Building.{Ready, ReadyAs, Emits, ForkReady, Forks, fork_size};
+ghost use Rattle.compiler.specs.Building.{fork_at};
 
-use pieces::cells::{gates, put, rise};
+use circuit::Cell;
+use meaning::Kind;
+use pieces::cells::{gates, place, rise};
 use pieces::leaves::{Made, leaf};
 use pieces::rows::{join, keep};
 use pieces::seams::{Forked, feed, merge, round};
-use tables::{number, operand};
+use terms::Accepted;
 
 // Seq: f; the rise of its done, which starts g on f's outputs; both dones.
 #[cycle(emit_fork_ite_par_rec_seq)]
 fn seq(
-    table: &[u32],
-    ins: &[u32; 256],
-    outs: &[u32; 256],
+    table: &Accepted,
     k: usize,
     netlist: &mut [u32],
     at: u32,
     start: u32,
     words: &mut [u32; 16],
 ) -> Made
-    requires { (Ready table.now ins.now outs.now k netlist.old at words.old)
-        × (kind_of table.now k ≡ 1) }
-    ensures { Emits (tree table.now k) at start words.old
+    requires { ReadyAs Kind.Seq table.now.numbers.now k netlist.old at }
+    ensures { Emits (tree table.now.numbers.now k) at start words.old
         netlist.old netlist.new words.new result }
 {
-    let f = operand(table, k, 1);
-    let g = operand(table, k, 2);
-    let first = emit(table, ins, outs, f, netlist, at, start, words);
+    let f = table.operand(k, 1);
+    let g = table.operand(k, 2);
+    let first = emit(table, f, netlist, at, start, words);
     let p = first.next;
     rise(netlist, p, first.done);
-    let second = emit(table, ins, outs, g, netlist, p + 3, p + 2, words);
+    let second = emit(table, g, netlist, p + 3, p + 2, words);
     let q = second.next;
-    put(netlist, q, 2, first.done, second.done, 0);
+    place(netlist, q, Cell::And(first.done, second.done));
     Made {
         next: q + 1,
         done: q,
@@ -52,28 +51,25 @@ fn seq(
 // Par: f and g from one start on the same words; both dones.
 #[cycle(emit_fork_ite_par_rec_seq)]
 fn par(
-    table: &[u32],
-    ins: &[u32; 256],
-    outs: &[u32; 256],
+    table: &Accepted,
     k: usize,
     netlist: &mut [u32],
     at: u32,
     start: u32,
     words: &mut [u32; 16],
 ) -> Made
-    requires { (Ready table.now ins.now outs.now k netlist.old at words.old)
-        × (kind_of table.now k ≡ 2) }
-    ensures { Emits (tree table.now k) at start words.old
+    requires { ReadyAs Kind.Par table.now.numbers.now k netlist.old at }
+    ensures { Emits (tree table.now.numbers.now k) at start words.old
         netlist.old netlist.new words.new result }
 {
-    let f = operand(table, k, 1);
-    let g = operand(table, k, 2);
+    let f = table.operand(k, 1);
+    let g = table.operand(k, 2);
     let mut others = *words;
-    let first = emit(table, ins, outs, f, netlist, at, start, words);
-    let second = emit(table, ins, outs, g, netlist, first.next, start, &mut others);
+    let first = emit(table, f, netlist, at, start, words);
+    let second = emit(table, g, netlist, first.next, start, &mut others);
     let q = second.next;
-    put(netlist, q, 2, first.done, second.done, 0);
-    join(words, outs[f], &others, outs[g]);
+    place(netlist, q, Cell::And(first.done, second.done));
+    join(words, table.gives(f), &others, table.gives(g));
     Made {
         next: q + 1,
         done: q,
@@ -84,9 +80,7 @@ fn par(
 // outputs of f are left in place of the live words, and those of g in place of the kept ones.
 #[cycle(emit_fork_ite_par_rec_seq)]
 fn fork(
-    table: &[u32],
-    ins: &[u32; 256],
-    outs: &[u32; 256],
+    table: &Accepted,
     k: usize,
     netlist: &mut [u32],
     at: u32,
@@ -94,22 +88,21 @@ fn fork(
     live: &mut [u32; 16],
     kept: &mut [u32; 16],
 ) -> Forked
-    requires { ForkReady table.now ins.now outs.now k netlist.old at
-        live.old kept.old }
-    ensures { Forks (fork_at table.now k at start live.old kept.old) at
-        netlist.old netlist.new live.new kept.new result }
+    requires { ForkReady table.now.numbers.now k netlist.old at }
+    ensures { Forks (fork_at table.now.numbers.now k at start live.old kept.old) at
+        (fork_size table.now.numbers.now k) netlist.old netlist.new live.new kept.new result }
 {
-    let e = operand(table, k, 1);
-    let f = operand(table, k, 2);
-    let g = operand(table, k, 3);
-    let test = emit(table, ins, outs, e, netlist, at, start, live);
+    let e = table.operand(k, 1);
+    let f = table.operand(k, 2);
+    let g = table.operand(k, 3);
+    let test = emit(table, e, netlist, at, start, live);
     let gate = test.next;
     gates(netlist, gate, test.done, live[0]);
     *live = *kept;
-    let yes = emit(table, ins, outs, f, netlist, gate + 7, gate + 5, live);
-    let no = emit(table, ins, outs, g, netlist, yes.next, gate + 6, kept);
+    let yes = emit(table, f, netlist, gate + 7, gate + 5, live);
+    let no = emit(table, g, netlist, yes.next, gate + 6, kept);
     Forked {
-        gate: gate,
+        gate,
         next: no.next,
         tested: test.done,
         left: yes.done,
@@ -121,95 +114,73 @@ fn fork(
 // chosen on the test's word.
 #[cycle(emit_fork_ite_par_rec_seq)]
 fn ite(
-    table: &[u32],
-    ins: &[u32; 256],
-    outs: &[u32; 256],
+    table: &Accepted,
     k: usize,
     netlist: &mut [u32],
     at: u32,
     start: u32,
     words: &mut [u32; 16],
 ) -> Made
-    requires { (Ready table.now ins.now outs.now k netlist.old at words.old)
-        × (kind_of table.now k ≡ 3) }
-    ensures { Emits (tree table.now k) at start words.old
+    requires { ReadyAs Kind.Ite table.now.numbers.now k netlist.old at }
+    ensures { Emits (tree table.now.numbers.now k) at start words.old
         netlist.old netlist.new words.new result }
 {
-    let n = ins[k];
+    let n = table.takes(k);
     let mut others = [0u32; 16];
     keep(netlist, at, start, words, n, &mut others);
-    let both = fork(
-        table,
-        ins,
-        outs,
-        k,
-        netlist,
-        at + 2 * n,
-        start,
-        words,
-        &mut others,
-    );
-    merge(netlist, both, words, &others, outs[k])
+    let both = fork(table, k, netlist, at + 2 * n, start, words, &mut others);
+    merge(netlist, both, words, &others, table.gives(k))
 }
 
 // Rec: a round's start and its words, kept; the test and its branches on these; the ending, and
 // what feeds g's outputs back.
 #[cycle(emit_fork_ite_par_rec_seq)]
 fn rec(
-    table: &[u32],
-    ins: &[u32; 256],
-    outs: &[u32; 256],
+    table: &Accepted,
     k: usize,
     netlist: &mut [u32],
     at: u32,
     start: u32,
     words: &mut [u32; 16],
 ) -> Made
-    requires { (Ready table.now ins.now outs.now k netlist.old at words.old)
-        × (kind_of table.now k ≡ 4) }
-    ensures { Emits (tree table.now k) at start words.old
+    requires { ReadyAs Kind.Rec table.now.numbers.now k netlist.old at }
+    ensures { Emits (tree table.now.numbers.now k) at start words.old
         netlist.old netlist.new words.new result }
 {
-    let n = ins[k];
+    let n = table.takes(k);
     let mut others = [0u32; 16];
     round(netlist, at, start, words, &mut others, n);
     let first = at + 2 + 4 * n;
-    let both = fork(
-        table,
-        ins,
-        outs,
-        k,
-        netlist,
-        first,
-        at + 1 + n,
-        words,
-        &mut others,
-    );
+    let both = fork(table, k, netlist, first, at + 1 + n, words, &mut others);
     feed(netlist, at, both, &others, n)
 }
 
 // The block of term k.
 #[cycle(emit_fork_ite_par_rec_seq)]
 pub fn emit(
-    table: &[u32],
-    ins: &[u32; 256],
-    outs: &[u32; 256],
+    table: &Accepted,
     k: usize,
     netlist: &mut [u32],
     at: u32,
     start: u32,
     words: &mut [u32; 16],
 ) -> Made
-    requires { Ready table.now ins.now outs.now k netlist.old at words.old }
-    ensures { Emits (tree table.now k) at start words.old
+    requires { Ready table.now.numbers.now k netlist.old at }
+    ensures { Emits (tree table.now.numbers.now k) at start words.old
         netlist.old netlist.new words.new result }
 {
-    let kind = number(table, k, 0);
-    match kind {
-        1 => seq(table, ins, outs, k, netlist, at, start, words),
-        2 => par(table, ins, outs, k, netlist, at, start, words),
-        3 => ite(table, ins, outs, k, netlist, at, start, words),
-        4 => rec(table, ins, outs, k, netlist, at, start, words),
-        _ => leaf(netlist, at, start, kind, number(table, k, 2), words),
+    match table.kind(k) {
+        Kind::Seq => seq(table, k, netlist, at, start, words),
+        Kind::Par => par(table, k, netlist, at, start, words),
+        Kind::Ite => ite(table, k, netlist, at, start, words),
+        Kind::Rec => rec(table, k, netlist, at, start, words),
+        _ => leaf(
+            netlist,
+            at,
+            start,
+            table.number(k, 0),
+            table.number(k, 2),
+            words,
+        ),
     }
 }

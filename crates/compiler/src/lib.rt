@@ -3,97 +3,72 @@
 // cells; a refused call writes nothing.
 //
 //     compile   judges the table, then the memory, then writes
+//     size      the cells that the memory has to hold
 //     whole     load, the inputs, the main block, and in front of that what reads its done wire
 //     blocks    the block of a term: its operands' blocks, and the pieces that join them
-#![tactic(auto)]
+#![tactic(auto, using(crate::proofs::Terms::parts))]
 
 pub mod blocks;
 
-ghost use Rattle.std.specs.Prelude.{◌≡◌, length};
-ghost use Rattle.meaning.specs.Terms.{tree};
-ghost use Rattle.meaning.specs.Answers.{on_verdict};
-ghost use Rattle.circuit.specs.Compiling.{
-  whole_cells,
-  emitted,
-  not_emitted,
-  compiled_of,
-  netlist_after,
-};
-ghost use Rattle.pieces.specs.Writing.{written};
-ghost use Rattle.compiler.specs.Building.{WholeReady};
+ghost use Rattle.std.specs.Prelude.{◌≡◌, ◌≤◌, length};
+ghost use Rattle.meaning.specs.Terms.{main_of};
+ghost use Rattle.meaning.specs.Counts.{whole_size};
+ghost use Rattle.circuit.specs.Compiling.{whole_cells, emitted, compiled_of, netlist_after};
+ghost use Rattle.pieces.specs.Writing.{written, Room};
 
-use circuit::{Compiled, Emission};
-use meaning::Verdict;
-use pieces::cells::{front, put, wide};
+use circuit::{Cell, Compiled};
+use meaning::{Cause, Refusal};
+use pieces::cells::{front, place};
 use pieces::rows::{inputs, wires};
+use terms::Accepted;
 
-// The answer to a refused call: its number and place, and no wires.
-fn refused(number: u32, place: u32) -> Compiled
-    ensures { result ≡ not_emitted number place }
+// The cells of the whole circuit of the main term.
+fn size(table: &Accepted) -> u32
+    ensures { (result ≡ whole_size (main_of table.now.numbers.now)) × (result ≤ 4096) }
 {
-    Compiled {
-        emission: Emission::Refused(number, place),
-        wires: [0u32; 16],
-    }
+    let main = table.main();
+    6 + table.takes(main) + table.cells(main)
 }
 
-// A refusal of the table, passed on.
-fn passed_on(verdict: Verdict) -> Compiled
-    ensures { result ≡ on_verdict verdict (not_emitted 0 0) not_emitted }
-{
-    match verdict {
-        Verdict::Refused(number, place) => refused(number, place),
-        Verdict::Accepted => refused(0, 0),
-    }
-}
-
-// The whole circuit of term k: load; the inputs; the main block behind them and five cells more,
-// which are written last.
-fn whole(
-    table: &[u32],
-    ins: &[u32; 256],
-    outs: &[u32; 256],
-    k: usize,
-    netlist: &mut [u32],
-) -> Compiled
-    requires { WholeReady table.now ins.now outs.now k netlist.old }
-    ensures { (result ≡ emitted (tree table.now k))
+// The whole circuit of the main term: load; the inputs; the main block behind them and five cells
+// more, which are written last.
+fn whole(table: &Accepted, netlist: &mut [u32]) -> Compiled
+    requires { Room netlist.old 0 (whole_size (main_of table.now.numbers.now)) }
+    ensures { (result ≡ emitted (main_of table.now.numbers.now))
         × (netlist.new
-        ≡ written netlist.old 0 (whole_cells (tree table.now k))) }
+        ≡ written netlist.old 0 (whole_cells (main_of table.now.numbers.now))) }
 {
-    let n = ins[k];
-    put(netlist, 0, 0, 0, 0, 0);
+    let main = table.main();
+    let n = table.takes(main);
+    place(netlist, 0, Cell::Load);
     inputs(netlist, n);
     let mut words = [0u32; 16];
     wires(&mut words, 1, n);
-    let main = blocks::emit(table, ins, outs, k, netlist, n + 6, n + 5, &mut words);
-    let cells = main.next;
-    let done = main.done;
-    front(netlist, n, done);
+    let block = blocks::emit(table, main, netlist, n + 6, n + 5, &mut words);
+    front(netlist, n, block.done);
     Compiled {
-        emission: Emission::Emitted(cells, n, outs[k], done),
+        cells: block.next,
+        ins: n,
+        outs: table.gives(main),
+        done: block.done,
         wires: words,
     }
 }
 
 // The netlist of a table at a width, from the first number of the lent memory on; past it the
 // memory stays.
-pub fn compile(width: u32, table: &[u32], netlist: &mut [u32]) -> Compiled
+pub fn compile(width: u32, table: &[u32], netlist: &mut [u32]) -> Result<Compiled, Refusal>
     ensures { (result ≡ compiled_of width table.now (length netlist.old))
         × (netlist.new ≡ netlist_after width table.now netlist.old) }
 {
-    let facts = terms::check(width, table);
-    let verdict = facts.verdict;
-    let Verdict::Accepted = verdict else {
-        return passed_on(verdict);
+    let terms = terms::check(width, table)?;
+    let accepted = Accepted {
+        width,
+        numbers: table,
+        terms: &terms,
     };
-    let ins = facts.ins;
-    let outs = facts.outs;
-    let main = table.len() / 4 - 1;
-    let cells = 6 + ins[main] + terms::size(table, &ins, &outs, main);
-    let last = wide(cells) * 4 - 1;
-    if netlist.len() <= last {
-        return refused(10, 0);
+    if netlist.len() < size(&accepted) as usize * 4 {
+        return Err(Cause::NetlistRoom.into());
     }
-    whole(table, &ins, &outs, main, netlist)
+    Ok(whole(&accepted, netlist))
 }

@@ -1,5 +1,4 @@
 -- What is shown of what the program prints.
 pub mod Cases
-pub mod Meanings
 pub mod Printing
 pub mod Listing

@@ -1,79 +1,62 @@
--- Law: what a list of numbers that was read tells of the array that holds it. `respond` cites it. Assumes nothing.
-use Prim.Native.Nat.{ℕ, ◌-◌, ◌≤◌}
-use mathlib.Core.Path.{◌≡◌, refl, sym, ap, ◌∙◌}
-use mathlib.Core.List.{List, ◌++◌}
-use native.Mathlib.Omega.{arith}
-use lib.Dec.{leb}
-use lib.ListN.{length, get_or, take, drop, replicate, length-append, length-drop, length-replicate, get_or-append}
-use lib.Seq.{take_at, drop-append-le}
-use borrow.Author.Tests.{leb-true}
-use Rattle.meaning.specs.Choices.{and}
-use Rattle.meaning.proofs.Tests.{by-test, both}
+-- Law: what a list of numbers that was read, or none, says of what is printed. `respond` cites it. Assumes nothing.
+use Rattle.std.proofs.Common.{◌≡◌, ℕ, ◌-◌, ◌≤◌, List, length, get_or, take, drop, replicate, leb, Option, Some, None}
+use Rattle.std.proofs.Common.{refl, arith, option_map, length-drop, take_at}
+use Rattle.std.proofs.lemmas.Bool.Decides.{nat_tests}
+use Rattle.std.proofs.lemmas.Option.{same_Some}
+use lib.ListN.{get_or-append}
+use lib.Seq.{drop-append-le}
+use Rattle.meaning.proofs.Tests.{by-test}
 use Rattle.numbers.specs.declared.Listed.{Listed}
-use Rattle.numbers.specs.declared.Reading.TheVariants as reading
-use Rattle.numbers.specs.Lists.{Result, numbers, not_numbers, begun, read_from, limited, numbers_in, listed_as, listed_in}
+use Rattle.numbers.specs.Lists.{begun, read_from, limited, numbers_in, listed_as, listed_in}
 use Rattle.console.specs.Messages.{no_list_line}
 use Rattle.console.specs.Response.{printed, printed_for, response_to}
 
--- A result that keeps the limits.
-Fair : Result → Type 0
-Fair r = (ns : List ℕ) → r ≡ numbers ns → (1 ≤ length ns) × (length ns ≤ 1025)
+-- A list that is read has 1 to 1,025 numbers.
+abbrev Fits : ℕ → Type 0
+Fits n = (1 ≤ n) × (n ≤ 1025)
 
-none-fair : Fair not_numbers
-unfolding Fair
-none-fair ns e = let z : ◌≡◌ {A = ℕ} 0 1 = cc in absurd (omega arith)
+limited-fits : (r : Option (List ℕ)) (ns : List ℕ) → limited r ≡ Some ns → Fits (length ns)
+limited-fits (Some ms) ns e = grind (arith, nat_tests)
+limited-fits None ns e = cc
 
-limited-fair : (r : Result) → Fair (limited r)
-unfolding Fair
-limited-fair not_numbers = none-fair
-limited-fair (numbers ms) =
-    by-test Fair (and (leb 1 (length ms)) (leb (length ms) 1025)) (numbers ms) not_numbers
-    (λ t ns e.
-    let b = both (leb 1 (length ms)) (leb (length ms) 1025) t in
-    let q : ms ≡ ns = cc in
-    rw (← q) (leb-true 1 (length ms) b.0, leb-true (length ms) 1025 b.1))
-    (λ t. none-fair)
+read-fits : (l : List ℕ) (ns : List ℕ) → numbers_in l ≡ Some ns → Fits (length ns)
+unfolding numbers_in
+read-fits l ns =
+    by-test (λ r. r ≡ Some ns → Fits (length ns)) (leb (length l) 16384) (limited (read_from l begun)) None
+    (λ t. limited-fits (read_from l begun) ns) (λ t e. cc)
 
-fair : (l : List ℕ) → Fair (numbers_in l)
-unfolding Fair numbers_in
-fair l = by-test Fair (leb (length l) 16384) (limited (read_from l begun)) not_numbers
-    (λ t. limited-fair (read_from l begun)) (λ t. none-fair)
+-- In its array the first number is the width, and the others that are counted are the table.
+abbrev table_printed : Listed → List ℕ
+table_printed L = printed (get_or L.numbers 0 0) (take (L.count - 1) (drop 1 L.numbers))
 
--- The array of a list with so many numbers: the width first, then the table.
-pub record Given (line array : List ℕ) (count : ℕ) : Type 0 where
-  pub some : 1 ≤ count
-  pub few : count ≤ 1025
-  pub long : length array ≡ 1025
-  pub line_is : line ≡ printed (get_or array 0 0) (take (count - 1) (drop 1 array))
-
-given_by : (r : Result) (count : ℕ) → Fair r → (listed_as r).reading ≡ reading.Numbers count → Given (printed_for r) (listed_as r).numbers
-    count
-unfolding Fair
-given_by not_numbers count f e = let z : ◌≡◌ {A = ℕ} 0 1 = cc in absurd (omega arith)
-given_by (numbers ns) count f e =
-    let b = f ns refl in
-    let q : count ≡ length ns = cc in
+in-array : (ns : List ℕ) → 1 ≤ length ns → printed_for (Some ns) ≡ table_printed (listed_as ns)
+in-array ns h =
     let z = replicate {A = ℕ} (1025 - length ns) 0 in
-    let w : get_or (ns ++ z) 0 0 ≡ get_or ns 0 0 = get_or-append ns z 0 0 b.0 in
-    let d : drop 1 (ns ++ z) ≡ drop 1 ns ++ z = drop-append-le 1 ns z b.0 in
-    let l : length (drop 1 ns) ≡ count - 1 = length-drop 1 ns ∙ ap (λ (n : ℕ). n - 1) (sym q) in
-    record {
-      some = rw q b.0;
-      few = rw q b.1;
-      long = simp (length-append, length-replicate) (omega (arith, b.1));
-      line_is = rw (w, d, take_at (drop 1 ns) z (count - 1) l) refl;
-    }
+    rw (get_or-append ns z 0 0 h, drop-append-le 1 ns z h, take_at (drop 1 ns) z (length ns - 1) (length-drop 1 ns)) refl
 
-pub given : (input : List ℕ) (L : Listed) (count : ℕ) → L ≡ listed_in input → L.reading ≡ reading.Numbers count → Given (response_to
-    input) L.numbers count
-unfolding response_to listed_in
-given input L count e r = rw e (given_by (numbers_in input) count (fair input) (ap (λ (x : Listed). x.reading) (sym e) ∙ r))
+-- What is read, and what is none.
+of-list : (o : Option (List ℕ)) (L : Listed) → ((ns : List ℕ) → o ≡ Some ns → Fits (length ns)) →
+    Some L ≡ option_map listed_as o → Fits L.count × (printed_for o ≡ table_printed L)
+of-list (Some ns) L f e = let b = f ns refl in rw (same_Some _ _ e) (b, in-array ns b.0)
+of-list None L f e = cc
 
--- What is no list.
-no-given : (r : Result) → (listed_as r).reading ≡ reading.NotNumbers → printed_for r ≡ no_list_line
-no-given not_numbers e = refl
-no-given (numbers ns) e = let z : ◌≡◌ {A = ℕ} 0 1 = cc in absurd (omega arith)
+of-none : (o : Option (List ℕ)) → None ≡ option_map listed_as o → printed_for o ≡ no_list_line
+of-none (Some ns) e = cc
+of-none None e = refl
 
-pub not-given : (input : List ℕ) (L : Listed) → L ≡ listed_in input → L.reading ≡ reading.NotNumbers → response_to input ≡ no_list_line
-unfolding response_to listed_in
-not-given input L e r = no-given (numbers_in input) (ap (λ (x : Listed). x.reading) (sym e) ∙ r)
+module _ (input : List ℕ) where
+  pub no_list : None ≡ listed_in input → response_to input ≡ no_list_line
+  unfolding response_to listed_in
+  no_list = of-none (numbers_in input)
+
+  module _ {L : Listed} (read : Some L ≡ listed_in input) where
+    pub list_fits : Fits L.count
+    unfolding listed_in
+    list_fits = (of-list (numbers_in input) L (read-fits input) read).0
+
+    pub list_printed : response_to input ≡ table_printed L
+    unfolding response_to listed_in
+    list_printed = (of-list (numbers_in input) L (read-fits input) read).1
+
+-- What the search takes.
+pub ruleset listing = (no_list, list_fits, list_printed)

@@ -2,21 +2,16 @@
 -- docs/READING.md: "The Verilog text". Read after: `Messages`, numbers' `Lists`, verilog's `Writing`, circuit's
 -- `Compiling`.
 -- Assumes nothing.
-use Rattle.std.specs.Prelude.{ℕ, List, drop}
-use Rattle.meaning.specs.declared.Verdict.{Verdict}
+use Rattle.std.specs.Prelude.{ℕ, List, drop, Option, Some, None}
 use Rattle.meaning.specs.Choices.{at, padded}
 use Rattle.meaning.specs.Terms.{Term, main_of}
 use Rattle.meaning.specs.Counts.{ins, outs}
-use Rattle.meaning.specs.Answers.{on_verdict}
-use Rattle.circuit.specs.declared.Emission.{Emission}
-use Rattle.circuit.specs.declared.Emission.TheVariants as emission
+use Rattle.meaning.specs.Refusals.{Verdict, on_verdict}
 use Rattle.circuit.specs.Compiling.{main_block, netlist_of, compile_verdict}
-use Rattle.verilog.specs.declared.Written.{Written}
-use Rattle.verilog.specs.declared.Written.TheVariants as written
 use Rattle.verilog.specs.Texts.{text_of}
 use Rattle.verilog.specs.Writing.{write_verdict}
 use Rattle.console.specs.Messages.{refused_line, no_list_line}
-use Rattle.numbers.specs.Lists.{Result, numbers, not_numbers, numbers_in}
+use Rattle.numbers.specs.Lists.{numbers_in}
 
 -- How many numbers are lent for cells, and how many bytes for text.
 abbrev pub cell_room : ℕ
@@ -44,18 +39,9 @@ printed w t =
     refused_line
 
 -- For a list of numbers the width comes first and then the table.
-abbrev pub printed_for : Result → List ℕ
-printed_for (numbers ns) = printed (at ns 0) (drop 1 ns)
-printed_for not_numbers = no_list_line
+abbrev pub printed_for : Option (List ℕ) → List ℕ
+printed_for (Some ns) = printed (at ns 0) (drop 1 ns)
+printed_for None = no_list_line
 
 unfoldable pub response_to : List ℕ → List ℕ
 response_to input = printed_for (numbers_in input)
-
--- The lines of a compiler's and of a writer's refusal; other answers are never passed on.
-abbrev pub emission_line : Emission → List ℕ
-emission_line (emission.Emitted c i o d) = refused_line 0 0
-emission_line (emission.Refused n p) = refused_line n p
-
-abbrev pub written_line : Written → List ℕ
-written_line (written.Length n) = refused_line 0 0
-written_line (written.Refused n p) = refused_line n p

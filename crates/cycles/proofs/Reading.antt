@@ -1,51 +1,85 @@
--- Law: what each reader of a checked cell's numbers asks for, by the kind of the cell: lower wires, registers' wires.
--- The proof of `cycles::shows` cites it. Assumes nothing.
+-- Law: what a cell that passed its checks reads is there. `Cycle::gate` cites it. Assumes nothing.
 use Prim.Native.Nat.{ℕ, ◌≤◌, ◌<◌}
-use mathlib.Core.Path.{◌≡◌, refl}
-use mathlib.Core.Bool.{Bool, true, false}
+use mathlib.Core.Path.{◌≡◌, refl, ◌∙◌}
+use mathlib.Core.Bool.{true}
 use mathlib.Core.List.{List}
-use mathlib.Core.Logic.{inl, inr}
 use native.Mathlib.Omega.{arith}
-use lib.ListN.{length}
-use Rattle.meaning.proofs.Tests.{clash, split}
-use Rattle.circuit.specs.Cells.{stride, cell_number, kind_at, cell_count, ports_of}
-use Rattle.cells.proofs.Passed.{Passed, passed}
-use Rattle.cells.proofs.Wires.{is_lower, is_later, x-lower, y-lower, z-lower, x-there, operation-x, operation-y}
-use Rattle.cycles.specs.Ready.{Ready, Past, Lower}
+use lib.Dec.{ltb}
+use borrow.Author.Tests.{ne_eqb, lt-ltb, le-ltb}
+use Rattle.circuit.specs.declared.Gate.TheVariants as gate
+use Rattle.meaning.specs.Choices.{pick}
+use Rattle.meaning.specs.Refusals.{passed}
+use Rattle.circuit.specs.Cells.{Cell, kind_at, cell_count, cell_at}
+use Rattle.circuit.specs.Gates.{gate_named}
+use Rattle.circuit.specs.Netlists.{netlist_verdict}
+use Rattle.circuit.specs.Simulated.{inputs_given}
+use Rattle.circuit.proofs.Checked.{checked}
+use Rattle.circuit.proofs.Passes.{
+  Passes,
+  kind_of_cell,
+  x_of_cell,
+  load_passes,
+  not_passes,
+  and_passes,
+  or_passes,
+  low_passes,
+  high_passes,
+  nonzero_passes,
+  input_passes,
+  constant_passes,
+  register_passes,
+  choice_passes,
+  copy_passes,
+  two_passes,
+  one_passes,
+}
+use Rattle.cycles.specs.Reads.{Reads}
+use Rattle.cycles.proofs.Inputs.{given-at}
 
-module _ (w : ℕ) (net : List ℕ) (given room : ℕ) (n : ℕ) (R : Ready w net given room) (l : n < cell_count net) where
-  cell-tests : Passed w net n
-  cell-tests = passed w net R.checked n l
+-- The kinds from 13 on are operations.
+operation-named : (k : ℕ) → 13 ≤ k → gate_named k ≡ pick (ltb k 20) gate.Binary gate.Unary
+operation-named k l = rw (
+  ne_eqb k 0 (λ q. omega arith),
+  ne_eqb k 1 (λ q. omega arith),
+  ne_eqb k 2 (λ q. omega arith),
+  ne_eqb k 3 (λ q. omega arith),
+  ne_eqb k 4 (λ q. omega arith),
+  ne_eqb k 5 (λ q. omega arith),
+  ne_eqb k 6 (λ q. omega arith),
+  ne_eqb k 8 (λ q. omega arith),
+  ne_eqb k 9 (λ q. omega arith),
+  ne_eqb k 10 (λ q. omega arith),
+  ne_eqb k 11 (λ q. omega arith),
+  ne_eqb k 12 (λ q. omega arith),
+)
 
-  -- A lower wire.
-  asked : (j : ℕ) → j < stride → cell_number net n j < n → Lower net n j room
-  asked j i h = (i, l, h, omega (arith, R.fitting))
+two-named : (k : ℕ) → 13 ≤ k → k < 20 → gate_named k ≡ gate.Binary
+two-named k l u = operation-named k l ∙ rw (lt-ltb k 20 u)
 
-  module _ (k : ℕ) (e : kind_at net n ≡ k) where
-    pub x-asked : is_lower (ports_of k).x ≡ true → Lower net n 1 room
-    x-asked h = asked 1 (omega arith) (x-lower w net n cell-tests (rw e h))
+one-named : (k : ℕ) → 20 ≤ k → gate_named k ≡ gate.Unary
+one-named k l = operation-named k (omega arith) ∙ rw (le-ltb k 20 l)
 
-    pub y-asked : is_lower (ports_of k).y ≡ true → Lower net n 2 room
-    y-asked h = asked 2 (omega arith) (y-lower w net n cell-tests (rw e h))
+-- An operation with one operand has 0 for its second number, as low as the first.
+cell-reads : {w i count n : ℕ} {kinds : ℕ → ℕ} {c : Cell} (given : ℕ) → (kind_of_cell c ≡ 8 → x_of_cell c < given) →
+    Passes w i count kinds n c → Reads given count n c (gate_named (kind_of_cell c))
+cell-reads given f load_passes = refl
+cell-reads given f (not_passes x a) = (refl, a.0)
+cell-reads given f (and_passes x y a b) = (refl, a.0, b.0)
+cell-reads given f (or_passes x y a b) = (refl, a.0, b.0)
+cell-reads given f (low_passes x a) = (refl, a.0)
+cell-reads given f (high_passes x a) = (refl, a.0)
+cell-reads given f (nonzero_passes x a) = (refl, a.0)
+cell-reads given f (input_passes j a) = (refl, f refl)
+cell-reads given f (constant_passes v a) = refl
+cell-reads given f (register_passes x a) = (refl, a.0)
+cell-reads given f (choice_passes x y z a b c) = (refl, a.0, b.0, c.0)
+cell-reads given f (copy_passes x a) = (refl, a.0)
+cell-reads given f (two_passes k x y l u a b) = rw (two-named k l (omega arith)) (l, a.0, b.0)
+cell-reads given f (one_passes k x l u a) = rw (one-named k l) (omega arith, a.0, omega arith)
 
-    pub z-asked : is_lower (ports_of k).z ≡ true → Lower net n 3 room
-    z-asked h = asked 3 (omega arith) (z-lower w net n cell-tests (rw e h))
-
-    -- A register's wire.
-    pub held-asked : (fresh : Bool) (earlier : List ℕ) → Past fresh net earlier → is_later (ports_of k).x ≡ true →
-        (n < cell_count net) × (fresh ≡ false → cell_number net n 1 < length earlier)
-    held-asked fresh earlier p h = (l, λ f. omega (arith, x-there w net n cell-tests (rw e h), p f))
-
-  -- A kind that is neither one of those with a rule of their own nor 7, which is no kind, is an operation.
-  module _ (f : kind_at net n < 13 → kind_at net n ≡ 7) where
-    pub operates : 13 ≤ kind_at net n
-    operates = elim (split (kind_at net n) 13) [
-      | inl h ↦ clash false (rw (f h) at cell-tests.known) refl
-      | inr h ↦ h
-    ]
-
-    pub operation-x-asked : Lower net n 1 room
-    operation-x-asked = asked 1 (omega arith) (operation-x w net n cell-tests operates)
-
-    pub operation-y-asked : Lower net n 2 room
-    operation-y-asked = asked 2 (omega arith) (operation-y w net n cell-tests operates)
+-- Each cell of a checked netlist whose input cells name given words.
+pub reads : (w : ℕ) (net : List ℕ) (given n : ℕ) → netlist_verdict w net ≡ passed → inputs_given net given (cell_count net) ≡ true →
+    n < cell_count net → Reads given (cell_count net) n (cell_at net n) (gate_named (kind_at net n))
+reads w net given n h g l =
+    let c = (checked w net h).cells n l in
+    cell-reads given (given-at net given n (cell_count net) l g) c

@@ -1,112 +1,81 @@
--- Law: the answer of the whole run from what the term evaluator leaves, and what check 11 says of the words. Assumes nothing.
-use Prim.Native.Nat.{ℕ, ◌-◌, ◌^◌, ◌≤◌, ◌<◌}
-use mathlib.Core.Path.{◌≡◌, refl, sym, ap, ◌∙◌}
-use mathlib.Core.Bool.{true}
-use mathlib.Core.List.{List}
-use native.Mathlib.Omega.{arith}
-use lib.Dec.{eqb}
-use lib.ListN.{length}
-use borrow.Author.Tests.{eqb-true}
-use Rattle.meaning.specs.declared.End.{End}
-use Rattle.meaning.specs.declared.End.TheVariants.{Unfinished, Ended}
-use Rattle.meaning.specs.declared.Verdict.{Verdict}
-use Rattle.meaning.specs.declared.Verdict.TheVariants as verdict
-use Rattle.meaning.specs.declared.Facts.{Facts}
-use Rattle.meaning.specs.declared.Outcome.TheVariants as outcome
-use Rattle.meaning.specs.declared.Evaluated.{Evaluated}
-use Rattle.meaning.specs.Choices.{at, padded, all_below}
+-- Law: the evaluator's answer, from the facts of the table, check 11 and what the run of the main term leaves. Assumes nothing.
+use Rattle.std.proofs.Common.{ℕ, ◌-◌, ◌≤◌, ◌≡◌, refl, sym, ◌∙◌, true, false, List, length, eqb-true, Some, None, Result, Ok, Err, arith}
+use Rattle.meaning.specs.declared.Cause.TheVariants as cause
+use Rattle.meaning.specs.declared.Refusal.{Refusal}
+use Rattle.meaning.specs.declared.Known.{Known}
+use Rattle.meaning.specs.Choices.{padded}
 use Rattle.meaning.specs.Words.{Words}
-use Rattle.meaning.specs.Terms.{count, last_of, main_of}
+use Rattle.meaning.specs.Terms.{last_of, tree, main_of}
 use Rattle.meaning.specs.Counts.{ins, outs}
+use Rattle.meaning.specs.Refusals.{Verdict, passed, refused, on_verdict}
 use Rattle.meaning.specs.Checks.{verdict_of}
-use Rattle.meaning.specs.Cycles.{evaluate}
-use Rattle.meaning.specs.Answers.{on_verdict, known_facts, no_facts, facts_of, words_fit, without, answered, refused_with, evaluated_of}
+use Rattle.meaning.specs.Cycles.{Result as Run, unfinished, ended, evaluate}
+use Rattle.meaning.specs.Answers.{known_facts, facts_of, words_fit, answered, evaluated_of}
 use Rattle.meaning.proofs.Tests.{both}
-use Rattle.meaning.proofs.Lists.{column-at}
-use Rattle.meaning.proofs.Accepted.{accepted}
 use Rattle.meaning.proofs.Typed.{ins-few}
 use Rattle.meaning.proofs.Alike.{padded-evaluates}
+use Rattle.meaning.proofs.Steps.{later-zero}
+use Rattle.terms.proofs.Facts.{answers, table}
 use Rattle.leaves.specs.Results.{Leaves}
-use Rattle.runs.specs.Runs.{Ready, term_from}
-use Rattle.evaluator.specs.Answered.{ran_on, accepted_on}
-use Rattle.runs.proofs.Turns.{gave, was-unfinished}
-use Rattle.runs.proofs.Parts.{counted, in_array}
+use Rattle.leaves.proofs.Left.{leaves-as}
+use Rattle.runs.specs.Runs.{term_from}
+use Rattle.evaluator.specs.Answered.{ran_on}
 
-module _ {w : ℕ} {t given : List ℕ} (r : Ready w t given) where
-  some : 1 ≤ count t
-  some = (accepted w t r.accepted).some.0
+-- A refusal of the checks is the answer's.
+fails : (v : Verdict) (f : List Known) (e : Refusal) → ◌≡◌ {A = Result (List Known) Refusal} (Err e) (on_verdict v (Ok f) Err) → v ≡ Err e
+fails (Ok u) f e h = cc
+fails (Err d) f e h = cc
 
-  -- The last term is there, and so is its count.
-  pub last-there : last_of t < count t
-  last-there = omega (arith, some)
+module _ (w : ℕ) (t : List ℕ) (x : Words) (n : ℕ) where
+  pub refused_before : (e : Refusal) → Err e ≡ facts_of w t → Err e ≡ evaluated_of w t x n
+  unfolding facts_of evaluated_of
+  refused_before e h = rw (fails (verdict_of w t) (known_facts t) e h)
 
-  pub last-in-array : last_of t < 256
-  last-in-array = in_array r (last_of t) last-there
+  module _ (facts : List Known) (h : Ok facts ≡ facts_of w t) where
+    went : verdict_of w t ≡ passed
+    unfolding facts_of
+    went = (answers (verdict_of w t) (known_facts t) facts (sym h)).0
 
-  -- Words that fit are few.
-  pub fit-few : (taken : ℕ) (x : Words) → taken ≡ ins (main_of t) → words_fit w taken x ≡ true → length x ≤ 16
-  fit-few taken x e h =
-      let l : length x ≡ taken = eqb-true _ _ (both (eqb (length x) taken) (all_below (2 ^ w) x) h).0 in
-      omega (arith, (ins-few w t (accepted w t r.accepted) (last_of t) last-there).1)
+    pub wide : w ≤ 32
+    wide = (table w t facts (sym h)).wide.1
 
-  -- The whole run, from cycle 0 to the budget on padded words, is the evaluation on the words.
-  module _ (budget : ℕ) (x y : Words) (p : y ≡ padded 16 x) (e : End) (array : Words)
-      (l : Leaves (term_from w t (last_of t) 0 budget y) e array) where
-    unpadded : evaluate w (main_of t) (budget - 0) y ≡ evaluate w (main_of t) budget x
-    unpadded = let z : budget - 0 ≡ budget = omega arith in rw (z, p) (padded-evaluates w (main_of t) budget 16 x)
+    pub words_refused : false ≡ words_fit w (ins (main_of t)) x → refused cause.InputWords 0 ≡ evaluated_of w t x n
+    unfolding evaluated_of
+    words_refused f = rw (went, ← f)
 
-    pub ran-unfinished : e ≡ Unfinished → without outcome.Unfinished ≡ ran_on w t x budget
-    ran-unfinished h =
-        ap (answered (outs (main_of t))) (sym (was-unfinished w (main_of t) 0 budget y e array l h) ∙ unpadded)
+    module _ (fit : true ≡ words_fit w (ins (main_of t)) x) where
+      pub few_words : length x ≤ 16
+      few_words =
+          let a = table w t facts (sym h) in
+          let l : length x ≡ ins (main_of t) = eqb-true _ _ (both _ _ (sym fit)).0 in
+          omega (arith, (ins-few w t a (last_of t) (omega (arith, a.some))).1)
 
-    pub ran-ended : (c : ℕ) → e ≡ Ended c → (a : Evaluated) →
-        a ≡ record { outcome = outcome.Answered (at given (last_of t)) c; words = array } → a ≡ ran_on w t x budget
-    ran-ended c h a q =
-        let g = gave w (main_of t) 0 budget y e array l c (omega arith) h in
-        let n : c ≡ g.cycles = omega (arith, g.time) in
-        let o : at given (last_of t) ≡ outs (main_of t) = counted r (last_of t) last-there in
-        let v : array ≡ padded 16 g.words = g.held in
-        q ∙ (cc (o, n, v) ∙ ap (answered (outs (main_of t))) (sym g.result ∙ unpadded))
+      pub words_ran : Ok (ran_on w t x n) ≡ evaluated_of w t x n
+      unfolding evaluated_of
+      words_ran = rw (went, ← fit)
 
--- What the checks of a table tell.
-by-verdict : (P : Facts → Verdict → Type 0) (w : ℕ) (t : List ℕ) →
-    (verdict_of w t ≡ verdict.Accepted → P (known_facts t) verdict.Accepted) →
-    ((n p : ℕ) → verdict_of w t ≡ verdict.Refused n p → P (no_facts n p) (verdict.Refused n p)) → P (facts_of w t) (verdict_of w t)
-unfolding facts_of
-by-verdict P w t f g = go (verdict_of w t) refl
-  where
-    go : (v : Verdict) → verdict_of w t ≡ v → P (on_verdict v (known_facts t) no_facts) v
-    go verdict.Accepted e = f e
-    go (verdict.Refused n p) e = g n p e
+-- The checks in their order.
+pub ruleset in_order = (refused_before, wide, words_refused, few_words, words_ran)
 
-facts-verdict : (w : ℕ) (t : List ℕ) → (facts_of w t).verdict ≡ verdict_of w t
-facts-verdict w t = by-verdict (λ a v. a.verdict ≡ v) w t (λ _. refl) (λ n p _. refl)
+-- What the run of the main term leaves is the answer.
+told-unfinished : (o : ℕ) (r : Run) (array : Words) → Leaves r None array → None ≡ answered o r
+told-unfinished o unfinished array l = refl
+told-unfinished o (ended c ws) array l = let z = l.end in cc
 
-facts-known : (w : ℕ) (t : List ℕ) → verdict_of w t ≡ verdict.Accepted → facts_of w t ≡ known_facts t
-unfolding facts_of
-facts-known w t e = rw e
+told-ended : (o c : ℕ) (r : Run) (array : Words) → Leaves r (Some c) array →
+    Some (record { outs = o; cycles = c; words = array }) ≡ answered o r
+told-ended o c unfinished array l = let z = l.end in cc
+told-ended o c (ended d ws) array l = let z = l.end in let y = l.words d ws refl in cc
 
-module _ (w : ℕ) (t : List ℕ) (facts : Facts) (f : facts ≡ facts_of w t) where
-  pub told : (v : Verdict) → facts.verdict ≡ v → verdict_of w t ≡ v
-  told v h = sym (facts-verdict w t) ∙ (ap (λ (a : Facts). a.verdict) (sym f) ∙ h)
+module _ (w : ℕ) (t : List ℕ) (x : Words) (n : ℕ) {m : ℕ} {y : Words} (main : m ≡ last_of t) (pad : y ≡ padded 16 x) where
+  same : evaluate w (main_of t) n x ≡ term_from w t m 0 n y
+  same =
+      let z : n - 0 ≡ n = omega arith in
+      rw (main, pad, z) (sym (later-zero _ ∙ padded-evaluates w (main_of t) n 16 x))
 
-  module _ (h : facts.verdict ≡ verdict.Accepted) where
-    known : facts ≡ known_facts t
-    known = f ∙ facts-known w t (told verdict.Accepted h)
+  pub ran-unfinished : (array : Words) → Leaves (term_from w t m 0 n y) None array → None ≡ ran_on w t x n
+  ran-unfinished array l = told-unfinished (outs (main_of t)) _ array (leaves-as same l)
 
-    pub ready : Ready w t facts.outs
-    ready = record { accepted = told verdict.Accepted h; counted = ap (λ (a : Facts). a.outs) known }
-
-    pub taken : at facts.ins (last_of t) ≡ ins (main_of t)
-    taken =
-        ap (λ (a : Facts). at a.ins (last_of t)) known ∙
-        column-at ins t (accepted w t (told verdict.Accepted h)).some.1 (last_of t) (last-there ready)
-
-  -- The answer, by the verdict.
-  pub passed_on : (n p : ℕ) (x : Words) (budget : ℕ) → facts.verdict ≡ verdict.Refused n p → refused_with n p ≡ evaluated_of w t x budget
-  unfolding evaluated_of
-  passed_on n p x budget h = rw (told (verdict.Refused n p) h)
-
-  pub went_on : (x : Words) (budget : ℕ) → facts.verdict ≡ verdict.Accepted → accepted_on w t x budget ≡ evaluated_of w t x budget
-  unfolding evaluated_of
-  went_on x budget h = rw (told verdict.Accepted h)
+  pub ran-ended : (o c : ℕ) (array : Words) → o ≡ outs (tree t m) → Leaves (term_from w t m 0 n y) (Some c) array →
+      Some (record { outs = o; cycles = c; words = array }) ≡ ran_on w t x n
+  ran-ended o c array h l = rw (h, main) (told-ended (outs (main_of t)) c _ array (leaves-as same l))

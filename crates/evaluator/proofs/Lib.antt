@@ -1,4 +1,3 @@
--- The laws that the proofs share, and that the answer is one.
-pub mod Filled
+-- The laws of the evaluator's answer, and that the answer is one.
 pub mod Answered
 pub mod Unique

@@ -17,11 +17,7 @@ pub fn padded(input: &[u32]) -> [u32; 16]
     requires { length input.now ≤ 16 }
     ensures { result ≡ «padded» 16 input.now }
 {
-    let mut words = [0u32; 16];
-    let mut i = 0;
-    while i < input.len() {
-        words[i] = input[i];
-        i = i + 1;
-    }
+    let mut words = [0; 16];
+    words[..input.len()].copy_from_slice(input);
     words
 }

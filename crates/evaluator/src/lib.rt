@@ -10,70 +10,47 @@
 mod inputs;
 
 ghost use Rattle.std.specs.Prelude.{◌≡◌, ◌≤◌, length};
-ghost use Rattle.meaning.specs.Terms.{main_of};
-ghost use Rattle.meaning.specs.Counts.{ins};
-ghost use Rattle.meaning.specs.Answers.{«without», evaluated_of};
-ghost use Rattle.runs.specs.Runs.{Ready};
-ghost use Rattle.evaluator.specs.Answered.{ran_on, accepted_on};
+ghost use Rattle.meaning.specs.Answers.{evaluated_of};
+ghost use Rattle.evaluator.specs.Answered.{ran_on};
 
-use meaning::{End, Evaluated, Outcome, Verdict};
-
-// An outcome that has no words.
-fn wordless(outcome: Outcome) -> Evaluated
-    ensures { result ≡ «without» outcome }
-{
-    Evaluated {
-        outcome: outcome,
-        words: [0u32; 16],
-    }
-}
+use meaning::{Answer, Cause, Refusal};
+use terms::Accepted;
 
 // The run of the main term of an accepted table, on words that fit it.
-fn ran(width: u32, table: &[u32], given: &[u32; 256], input: &[u32], budget: u32) -> Evaluated
-    requires { Ready width table.now given.now × (length input.now ≤ 16) }
-    ensures { result ≡ ran_on width table.now input.now budget }
+fn ran(table: &Accepted, input: &[u32], budget: u32) -> Option<Answer>
+    requires { length input.now ≤ 16 }
+    ensures { result ≡ ran_on table.now.width table.now.numbers.now input.now budget }
 {
-    let main = table.len() / 4 - 1;
+    let main = table.main();
     let mut words = inputs::padded(input);
-    let end = runs::term(width, table, given, main, &mut words, 0, budget);
-    let End::Ended(cycles) = end else {
-        return wordless(Outcome::Unfinished);
-    };
-    Evaluated {
-        outcome: Outcome::Answered(given[main], cycles),
-        words: words,
-    }
-}
-
-// Check 11, and the run. The main term takes `taken` words.
-fn accepted(
-    width: u32,
-    table: &[u32],
-    taken: u32,
-    given: &[u32; 256],
-    input: &[u32],
-    budget: u32,
-) -> Evaluated
-    requires { Ready width table.now given.now × (taken ≡ ins (main_of table.now)) }
-    ensures { result ≡ accepted_on width table.now input.now budget }
-{
-    if !inputs::fit(width, taken as usize, input) {
-        return wordless(Outcome::Refused(11, 0));
-    }
-    ran(width, table, given, input, budget)
+    let cycles = runs::term(table, main, &mut words, 0, budget)?;
+    Some(Answer {
+        outs: table.gives(main),
+        cycles,
+        words,
+    })
 }
 
 // What the main term of a table gives on the words, and its cycles, where they are within the
 // budget.
-pub fn evaluate(width: u32, table: &[u32], words: &[u32], budget: u32) -> Evaluated
+#[tactic(auto, using(crate::proofs::Answered::in_order))]
+pub fn evaluate(
+    width: u32,
+    table: &[u32],
+    words: &[u32],
+    budget: u32,
+) -> Result<Option<Answer>, Refusal>
     ensures { result ≡ evaluated_of width table.now words.now budget }
 {
-    let facts = terms::check(width, table);
-    let verdict = facts.verdict;
-    let Verdict::Refused(number, place) = verdict else {
-        let main = table.len() / 4 - 1;
-        let given = facts.outs;
-        return accepted(width, table, facts.ins[main], &given, words, budget);
+    let terms = terms::check(width, table)?;
+    let accepted = Accepted {
+        width,
+        numbers: table,
+        terms: &terms,
     };
-    wordless(Outcome::Refused(number, place))
+    let taken = accepted.takes(accepted.main());
+    if !inputs::fit(width, taken as usize, words) {
+        return Err(Cause::InputWords.into());
+    }
+    Ok(ran(&accepted, words, budget))
 }

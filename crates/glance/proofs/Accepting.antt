@@ -1,32 +1,23 @@
--- Law: cell by cell all are found sound, and a step whose cells are sound is accepted. `glance::all_sound` and `glance::step` cite it.
--- Assumes nothing.
-use Prim.Native.Nat.{ℕ, zero, suc, ◌+◌, ◌<◌, ◌^◌}
+-- Law: a step whose cells are sound is accepted. `glance::step` cites it. Assumes nothing.
+use Prim.Native.Nat.{ℕ, zero, suc, ◌<◌, ◌^◌}
 use mathlib.Core.Path.{◌≡◌, refl}
 use mathlib.Core.Bool.{Bool, true, false}
 use mathlib.Core.List.{List}
-use mathlib.Core.Logic.{⊎_elim}
-use native.Mathlib.Nat.{eq-or-lt_of_le}
 use native.Mathlib.Omega.{arith}
 use lib.Dec.{eqb, ltb, leb}
 use lib.ListN.{length}
 use borrow.Author.Tests.{lt-ltb, eq-eqb, eqb-true}
-use Rattle.meaning.specs.declared.Verdict.TheVariants as verdict
-use Rattle.meaning.specs.Choices.{pick, at, all_below}
+use Rattle.meaning.specs.Choices.{pick, all_below}
 use Rattle.meaning.specs.Words.{Words}
+use Rattle.meaning.specs.Refusals.{passed}
 use Rattle.meaning.specs.Checks.{width_fits, first_refusal}
 use Rattle.circuit.specs.Cells.{cell_number, kind_at, cell_count}
 use Rattle.circuit.specs.Netlists.{netlist_fits, cell_refusal, netlist_verdict}
 use Rattle.circuit.specs.Simulated.{inputs_given, inputs_verdict, wire_refusal, step_verdict}
 use Rattle.meaning.proofs.Verdicts.{scan-passes}
-use Rattle.glance.specs.Sound.{Sound, AllSound}
+use Rattle.glance.specs.Sound.{AllSound}
 
 module _ (w : ℕ) (net : List ℕ) (given : ℕ) (wires : List ℕ) where
-  pub sound-on : (m : ℕ) → AllSound w net given wires m → Sound w net m given (at wires m) → AllSound w net given wires (m + 1)
-  sound-on m all one n l = ⊎_elim
-      (λ e. rw e one)
-      (λ i. all n i)
-      (eq-or-lt_of_le {n = n} {m = m} (omega arith))
-
   -- Each of the first m input cells names a word that is given, where the first m cells are sound.
   named : (k x : ℕ) → (k ≡ 8 → x < given) → (b : Bool) → eqb k 8 ≡ b → pick b (ltb x given) true ≡ true
   named k x f true e = lt-ltb x given (f (eqb-true k 8 e))
@@ -39,15 +30,15 @@ module _ (w : ℕ) (net : List ℕ) (given : ℕ) (wires : List ℕ) where
       rw (all-given m (λ n l. all n (omega arith))) (named (kind_at net m) (cell_number net m 1) (all m (omega arith)).named _ refl)
 
 module _ (w : ℕ) (net earlier : List ℕ) (words : Words) (all : AllSound w net (length words) earlier (cell_count net)) where
-  checked : first_refusal (cell_refusal w net) (cell_count net) 0 verdict.Accepted ≡ verdict.Accepted
-  checked = scan-passes (cell_refusal w net) (cell_count net) 0 verdict.Accepted (λ j l u. (all j (omega arith)).unrefused)
+  checked : first_refusal (cell_refusal w net) (cell_count net) 0 passed ≡ passed
+  checked = scan-passes (cell_refusal w net) (cell_count net) 0 passed (λ j l u. (all j (omega arith)).unrefused)
 
   ranged : first_refusal (wire_refusal w net earlier) (cell_count net) 0 (inputs_verdict w net words) ≡ inputs_verdict w net words
   ranged = scan-passes (wire_refusal w net earlier) (cell_count net) 0 (inputs_verdict w net words)
       (λ j l u. rw (all j (omega arith)).ranged)
 
   pub accepted : (room : ℕ) → width_fits w ≡ true → netlist_fits net ≡ true → length earlier ≡ cell_count net → room ≡ cell_count net →
-      leb (length words) 16 ≡ true → all_below (2 ^ w) words ≡ true → step_verdict w net earlier words room ≡ verdict.Accepted
+      leb (length words) 16 ≡ true → all_below (2 ^ w) words ≡ true → step_verdict w net earlier words room ≡ passed
   unfolding step_verdict netlist_verdict
   accepted room a b l r few fit = rw (
     a,

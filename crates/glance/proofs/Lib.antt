@@ -1,4 +1,3 @@
--- Laws of one look: tests that stop at the first no, what a sound cell is made of, and that a step whose cells are sound is accepted.
-pub mod Stopping
+-- Laws of one look: what a sound cell is made of, and that a step whose cells are sound is accepted.
 pub mod Soundness
 pub mod Accepting

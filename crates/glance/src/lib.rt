@@ -6,12 +6,12 @@
 mod rows;
 
 ghost use Rattle.std.specs.Prelude.{◌≡◌, true, ◌≤◌, ◌<◌, length};
-ghost use Rattle.meaning.specs.Choices.{at};
+ghost use Rattle.meaning.specs.Refusals.{passed};
 ghost use Rattle.circuit.specs.Cells.{cell_count};
 ghost use Rattle.circuit.specs.Simulated.{step_verdict};
 ghost use Rattle.glance.specs.Sound.{AllSound};
 
-use meaning::Verdict;
+use rows::Look;
 
 // Whether every cell and its wire of the cycle before passes.
 fn all_sound(width: u32, netlist: &[u32], given: usize, wires: &[u32]) -> bool
@@ -19,41 +19,30 @@ fn all_sound(width: u32, netlist: &[u32], given: usize, wires: &[u32]) -> bool
     ensures { result ≡ true → AllSound width netlist.now given
         wires.now (cell_count netlist.now) }
 {
-    let count = cells::count(netlist);
-    let mut n: usize = 0;
-    while n < count {
-        if !rows::sound(width, netlist, n, given, wires[n]) {
-            return false;
-        }
-        n = n + 1;
-    }
-    true
+    let look = Look {
+        width,
+        netlist,
+        given,
+    };
+    wires
+        .iter()
+        .enumerate()
+        .all(|(n, &shown)| look.sound(n, shown))
 }
 
 // Yes only where a step is accepted; no says nothing, and the checks in order decide.
+#[tactic(auto, using(crate::proofs::Accepting::accepted))]
 pub fn step(width: u32, netlist: &[u32], before: &[u32], words: &[u32], room: usize) -> bool
     ensures { result ≡ true → step_verdict width netlist.now before.now
-        words.now room ≡ Verdict.Accepted }
+        words.now room ≡ passed }
 {
-    if !words::width_fits(width) {
-        return false;
-    }
-    if !cells::netlist_fits(netlist) {
-        return false;
-    }
     let count = cells::count(netlist);
-    if before.len() != count {
-        return false;
-    }
-    if room != count {
-        return false;
-    }
     let given = words.len();
-    if 16 < given {
-        return false;
-    }
-    if !words::all_fit(width, words) {
-        return false;
-    }
-    all_sound(width, netlist, given, before)
+    words::width_fits(width)
+        && cells::netlist_fits(netlist)
+        && before.len() == count
+        && room == count
+        && given <= 16
+        && words::all_fit(width, words)
+        && all_sound(width, netlist, given, before)
 }

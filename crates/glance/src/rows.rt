@@ -1,98 +1,81 @@
-// One cell and its wire, by the row of its kind: what its wire shows, at most `top`, and then its
-// numbers. docs/READING.md: "Cells", "Refusal numbers".
-ghost use Rattle.std.specs.Prelude.{◌≡◌, true, ◌≤◌, ◌<◌, leb};
-ghost use Rattle.meaning.specs.Choices.{and};
+// One cell and its wire, by the row of its gate: what its wire shows, at most the largest bit or
+// word, and then its numbers. docs/READING.md: "Cells", "Refusal numbers".
+ghost use Rattle.std.specs.Prelude.{◌≡◌, true, ◌≤◌, ◌<◌};
 ghost use Rattle.circuit.specs.Cells.{cell_count};
-ghost use Rattle.glance.specs.Asked as asked;
+ghost use Rattle.glance.specs.Asked.{BitBelow, WordBelow, Row};
 ghost use Rattle.glance.specs.Sound.{Sound};
 
-// Wire v is one of the first m, and a word or a bit as is due.
-fn below(netlist: &[u32], m: usize, word: bool, v: u32) -> bool
-    requires { m ≤ cell_count netlist.now }
-    ensures { result ≡ asked.below netlist.now m word v }
-{
-    if m <= (v as usize) {
-        return false;
+use circuit::Gate;
+
+// What the cells of a step are looked at with: the width, the netlist, and how many words are
+// given.
+#[derive(Clone, Copy)]
+pub struct Look<'a> {
+    pub width: u32,
+    pub netlist: &'a [u32],
+    pub given: usize,
+    ghost narrow: { width ≤ 32 },
+    ghost few: { given ≤ 16 },
+}
+
+impl Look<'_> {
+    // Whether wire v is one of the first m, and drives a bit.
+    fn bit(&self, m: usize, v: u32) -> bool
+        requires { m ≤ cell_count self.now.netlist.now }
+        ensures { result ≡ true → BitBelow self.now.netlist.now m v }
+    {
+        (v as usize) < m && cells::kind(self.netlist, v as usize) <= 6
     }
-    let kind = cells::kind(netlist, v as usize);
-    if word { 8 <= kind } else { kind <= 6 }
-}
 
-// Cell n has no use for y and z.
-fn lone(netlist: &[u32], n: usize) -> bool
-    requires { n < cell_count netlist.now }
-    ensures { result ≡ asked.lone netlist.now n }
-{
-    let y = cells::number(netlist, n, 2);
-    let z = cells::number(netlist, n, 3);
-    y == 0 && z == 0
-}
+    // Whether wire v is one of the first m, and drives a word.
+    fn word(&self, m: usize, v: u32) -> bool
+        requires { m ≤ cell_count self.now.netlist.now }
+        ensures { result ≡ true → WordBelow self.now.netlist.now m v }
+    {
+        (v as usize) < m && 8 <= cells::kind(self.netlist, v as usize)
+    }
 
-// Its x is a number, of which `holds` is asked.
-fn no_wire(netlist: &[u32], n: usize, holds: bool, shown: u32, top: u32) -> bool
-    requires { n < cell_count netlist.now }
-    ensures { result ≡ and (leb shown top) (and holds (asked.lone netlist.now n)) }
-{
-    shown <= top && (holds && lone(netlist, n))
-}
+    // Whether cell n, with the numbers that it has, and what its wire shows meet the row of a gate.
+    fn row(&self, gate: Gate, n: usize, cell: [u32; 4], shown: u32) -> bool
+        requires { n < cell_count self.now.netlist.now }
+        ensures { result ≡ true → Row self.now.width self.now.netlist.now self.now.given n shown
+            cell gate }
+    {
+        let cells = cells::count(self.netlist);
+        let most = words::ones(self.width);
+        let [kind, x, y, z] = cell;
+        match gate {
+            Gate::Load => shown <= 1 && x == 0 && y == 0 && z == 0,
+            Gate::Not => shown <= 1 && self.bit(n, x) && y == 0 && z == 0,
+            Gate::And | Gate::Or => shown <= 1 && self.bit(n, x) && self.bit(n, y) && z == 0,
+            Gate::LowRegister | Gate::HighRegister => {
+                shown <= 1 && self.bit(cells, x) && y == 0 && z == 0
+            }
+            Gate::NonZero => shown <= 1 && self.word(n, x) && y == 0 && z == 0,
+            Gate::Input => shown <= most && (x as usize) < self.given && y == 0 && z == 0,
+            Gate::Constant => shown <= most && x <= most && y == 0 && z == 0,
+            Gate::WordRegister => shown <= most && self.word(cells, x) && y == 0 && z == 0,
+            Gate::Choice => {
+                shown <= most && self.bit(n, x) && self.word(n, y) && self.word(n, z)
+            }
+            Gate::Copy => shown <= most && self.word(n, x) && y == 0 && z == 0,
+            Gate::Binary => {
+                13 <= kind && shown <= most && self.word(n, x) && self.word(n, y) && z == 0
+            }
+            Gate::Unary => kind <= 22 && shown <= most && self.word(n, x) && y == 0 && z == 0,
+        }
+    }
 
-// It reads one wire, one of the first m.
-fn one_wire(netlist: &[u32], n: usize, m: usize, word: bool, shown: u32, top: u32) -> bool
-    requires { (n < cell_count netlist.now) × (m ≤ cell_count netlist.now) }
-    ensures { result ≡ and (leb shown top) (asked.one_wire netlist.now n m word) }
-{
-    shown <= top && (below(netlist, m, word, cells::number(netlist, n, 1)) && lone(netlist, n))
-}
-
-// It reads two lower wires.
-fn two_wires(netlist: &[u32], n: usize, word: bool, shown: u32, top: u32) -> bool
-    requires { n < cell_count netlist.now }
-    ensures { result ≡ and (leb shown top) (asked.two_wires netlist.now n word) }
-{
-    shown <= top
-        && (below(netlist, n, word, cells::number(netlist, n, 1))
-            && (below(netlist, n, word, cells::number(netlist, n, 2))
-                && cells::number(netlist, n, 3) == 0))
-}
-
-// It reads a lower bit and two lower words.
-fn choice(netlist: &[u32], n: usize, shown: u32, top: u32) -> bool
-    requires { n < cell_count netlist.now }
-    ensures { result ≡ and (leb shown top) (asked.choice netlist.now n) }
-{
-    shown <= top
-        && (below(netlist, n, false, cells::number(netlist, n, 1))
-            && (below(netlist, n, true, cells::number(netlist, n, 2))
-                && below(netlist, n, true, cells::number(netlist, n, 3))))
-}
-
-// Whether cell n passes, where `given` words may be named and its wire shows `shown`.
-pub fn sound(width: u32, netlist: &[u32], n: usize, given: usize, shown: u32) -> bool
-    requires { (width ≤ 32) × (n < cell_count netlist.now) × (given ≤ 16) }
-    ensures { result ≡ true → Sound width netlist.now n given shown }
-{
-    let kind = cells::kind(netlist, n);
-    let x = cells::number(netlist, n, 1);
-    let count = cells::count(netlist);
-    let most = words::ones(width);
-    match kind {
-        0 => no_wire(netlist, n, x == 0, shown, 1),
-        1 => one_wire(netlist, n, n, false, shown, 1),
-        2 => two_wires(netlist, n, false, shown, 1),
-        3 => two_wires(netlist, n, false, shown, 1),
-        4 => one_wire(netlist, n, count, false, shown, 1),
-        5 => one_wire(netlist, n, count, false, shown, 1),
-        6 => one_wire(netlist, n, n, true, shown, 1),
-        8 => no_wire(netlist, n, (x as usize) < given, shown, most),
-        9 => no_wire(netlist, n, x <= most, shown, most),
-        10 => one_wire(netlist, n, count, true, shown, most),
-        11 => choice(netlist, n, shown, most),
-        12 => one_wire(netlist, n, n, true, shown, most),
-        _ => 13 <= kind
-            && if kind < 20 {
-                two_wires(netlist, n, true, shown, most)
-            } else {
-                kind <= 22 && one_wire(netlist, n, n, true, shown, most)
-            },
+    // Whether cell n passes, where its wire shows `shown`. Its numbers are read before the one jump
+    // on its gate.
+    pub fn sound(&self, n: usize, shown: u32) -> bool
+        requires { n < cell_count self.now.netlist.now }
+        ensures { result ≡ true → Sound self.now.width self.now.netlist.now n self.now.given shown }
+    {
+        let kind = cells::kind(self.netlist, n);
+        let x = cells::number(self.netlist, n, 1);
+        let y = cells::number(self.netlist, n, 2);
+        let z = cells::number(self.netlist, n, 3);
+        self.row(Gate::from(kind), n, [kind, x, y, z], shown)
     }
 }

@@ -1,3 +1,3 @@
--- What is shown of the words that a run leaves: those of a leaf, and those of two sides.
+-- What is shown of what a run leaves, and of the words of two sides.
 pub mod Joined
 pub mod Left

@@ -1,23 +1,21 @@
 -- Results: a run that starts at one cycle and has until another, and what it leaves. Definitions only.
 -- docs/READING.md: "Cycles". Assumes nothing.
-use Rattle.std.specs.Prelude.{ℕ, ◌-◌, ◌≡◌, ◌++◌, take}
-use Rattle.meaning.specs.declared.End.{End}
-use Rattle.meaning.specs.declared.End.TheVariants.{Unfinished, Ended}
+use Rattle.std.specs.Prelude.{ℕ, ◌-◌, ◌≡◌, ◌++◌, take, Option, Some, None}
 use Rattle.meaning.specs.Choices.{padded}
 use Rattle.meaning.specs.Words.{Words}
-use Rattle.meaning.specs.Cycles.{Result, unfinished, ended, Evaluator, later}
+use Rattle.meaning.specs.Cycles.{Result as Run, unfinished, ended, Evaluator, later}
 
 -- A run that starts at one cycle and has until another.
-abbrev pub run_from : Evaluator → ℕ → ℕ → Words → Result
+abbrev pub run_from : Evaluator → ℕ → ℕ → Words → Run
 run_from E start limit x = later start (E (limit - start) x)
 
--- How a result is told: unfinished, or the cycle at which it ended.
-abbrev pub end_of : Result → End
-end_of unfinished = Unfinished
-end_of (ended c ws) = Ended c
+-- How a run is told: the cycle at which it ended, if it did.
+abbrev pub end_of : Run → Option ℕ
+end_of unfinished = None
+end_of (ended c ws) = Some c
 
--- A result leaves its end, and where it ended its words in an array of 16; of what an unfinished run leaves there nothing is said.
-pub record Leaves (r : Result) (e : End) (array : Words) : Type 0 where
+-- A run leaves its end, and where it ended its words in an array of 16; of what an unfinished run leaves there nothing is said.
+pub record Leaves (r : Run) (e : Option ℕ) (array : Words) : Type 0 where
   pub end : e ≡ end_of r
   pub words : (c : ℕ) (ws : Words) → r ≡ ended c ws → array ≡ padded 16 ws
 

@@ -2,56 +2,49 @@
 // docs/READING.md: "Term tables", "Cycles".
 #![tactic(auto)]
 
-ghost use Rattle.std.specs.Prelude.{◌≡◌, ◌<◌, ◌≤◌, max, length};
+ghost use Rattle.std.specs.Prelude.{◌≡◌, ◌<◌, ◌≤◌};
 ghost use Rattle.meaning.specs.Cycles.{leaf_word, leaf_run};
 ghost use Rattle.leaves.specs.Results.{run_from, Leaves, side_by_side};
 
-use meaning::End;
+use meaning::Kind;
 
 // The word of a leaf: a Const's own, the one that a Field names, or an operation's.
 fn word(width: u32, kind: u32, b: u32, x: &[u32; 16]) -> u32
     requires { (width ≤ 32) × (kind < 13 → (kind ≡ 9 → ⊥) → b < 16) }
     ensures { result ≡ leaf_word width kind b x.now }
 {
-    if kind < 13 {
-        if kind == 9 {
-            return b;
-        }
-        let j = b as usize;
-        return x[j];
+    match Kind::from(kind) {
+        Kind::Const => b,
+        Kind::Binary | Kind::Unary => words::operate(width, kind, x[0], x[1]),
+        _ => x[b as usize],
     }
-    words::operate(width, kind, x[0], x[1])
 }
 
 // A leaf takes one cycle, if there is one left, and leaves its one word.
-pub fn leaf(width: u32, kind: u32, b: u32, words: &mut [u32; 16], start: u32, limit: u32) -> End
+pub fn leaf(
+    width: u32,
+    kind: u32,
+    b: u32,
+    words: &mut [u32; 16],
+    start: u32,
+    limit: u32,
+) -> Option<u32>
     requires { (width ≤ 32) × (kind < 13 → (kind ≡ 9 → ⊥) → b < 16) × (start ≤ limit) }
     ensures { Leaves (run_from (leaf_run (leaf_word width kind b)) start limit words.old) result words.new }
 {
     if start == limit {
-        return End::Unfinished;
+        return None;
     }
     let first = word(width, kind, b, words);
-    *words = [0u32; 16];
+    *words = [0; 16];
     words[0] = first;
-    End::Ended(start + 1)
+    Some(start + 1)
 }
 
 // The words of the other side, after the first n.
 pub fn join(words: &mut [u32; 16], n: usize, others: &[u32; 16])
-    requires { (n ≤ 16) × (length words.old ≡ 16) × (length others.now ≡ 16) }
+    requires { n ≤ 16 }
     ensures { words.new ≡ side_by_side words.old n others.now }
 {
-    let mut i = n;
-    while i < 16 {
-        words[i] = others[i - n];
-        i = i + 1;
-    }
-}
-
-// The later of two cycles.
-pub fn later(c: u32, d: u32) -> u32
-    ensures { result ≡ max c d }
-{
-    if c < d { d } else { c }
+    words[n..].copy_from_slice(&others[..16 - n]);
 }

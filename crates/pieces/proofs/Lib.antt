@@ -1,6 +1,5 @@
 -- What is shown of cells written into lent memory.
 pub mod Placing
-pub mod Groups
 pub mod Turns
 pub mod Operations
 pub mod Seaming

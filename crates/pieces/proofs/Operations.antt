@@ -1,8 +1,8 @@
--- Law: the operation cell of a leaf, case by case, and the leaf's block on as many wires as it takes. `leaves` and `blocks::emit` cite
--- this. Assumes nothing.
-use Prim.Native.Nat.{ℕ, ◌+◌, ◌≤◌, ◌<◌}
-use mathlib.Core.Path.{◌≡◌, refl, sym, ap, ◌∙◌}
-use mathlib.Core.List.{List, [], ◌∷◌}
+-- Law: the operation cell of a leaf, case by case, and that it reads only the wires that the leaf takes. `blocks::emit` cites this.
+-- Assumes nothing.
+use Prim.Native.Nat.{ℕ, ◌≤◌, ◌<◌}
+use mathlib.Core.Path.{◌≡◌, sym, ap, ◌∙◌}
+use mathlib.Core.List.{List}
 use mathlib.Core.Logic.{inl, inr}
 use native.Mathlib.Omega.{arith}
 use lib.ListN.{take}
@@ -12,29 +12,21 @@ use Rattle.meaning.specs.Choices.{at}
 use Rattle.meaning.specs.Words.{arity}
 use Rattle.meaning.proofs.Tests.{split}
 use Rattle.meaning.proofs.Typed.{LeafFits, const_leaf, field_leaf, op_leaf}
-use Rattle.circuit.specs.Cells.{Cell, cell, not_cell, word_register, choice_cell}
-use Rattle.circuit.specs.Pieces.{◌after◌}
-use Rattle.circuit.specs.Blocks.{operation_cell, leaf_block}
-use Rattle.pieces.specs.Writing.{written}
-use Rattle.pieces.proofs.Placing.{plus-after}
-use Rattle.pieces.proofs.Groups.{four}
+use Rattle.circuit.specs.Cells.{cell}
+use Rattle.circuit.specs.Blocks.{operation_cell}
 
 module _ (k v : ℕ) (ws : List ℕ) where
-  pub operation-const : k < 13 → k ≡ 9 → operation_cell k v ws ≡ cell 9 v 0 0
+  operation-const : k < 13 → k ≡ 9 → operation_cell k v ws ≡ cell 9 v 0 0
   operation-const h e = rw (lt-ltb k 13 h, eq-eqb k 9 e)
 
-  pub operation-copy : k < 13 → (k ≡ 9 → ⊥) → operation_cell k v ws ≡ cell 12 (at ws v) 0 0
+  operation-copy : k < 13 → (k ≡ 9 → ⊥) → operation_cell k v ws ≡ cell 12 (at ws v) 0 0
   operation-copy h e = rw (lt-ltb k 13 h, ne_eqb k 9 e)
 
-  pub operation-two : 13 ≤ k → k < 20 → operation_cell k v ws ≡ cell k (at ws 0) (at ws 1) 0
+  operation-two : 13 ≤ k → k < 20 → operation_cell k v ws ≡ cell k (at ws 0) (at ws 1) 0
   operation-two h l = rw (le-ltb k 13 h, lt-ltb k 20 l)
 
-  pub operation-one : 13 ≤ k → 20 ≤ k → operation_cell k v ws ≡ cell k (at ws 0) 0 0
+  operation-one : 13 ≤ k → 20 ≤ k → operation_cell k v ws ≡ cell k (at ws 0) 0 0
   operation-one h l = rw (le-ltb k 13 h, le-ltb k 20 l)
-
--- A cell that was put, by another name.
-pub instead : (l : List ℕ) (p : ℕ) {v : List ℕ} {c d : Cell} → c ≡ d → v ≡ written l p (d ∷ []) → v ≡ written l p (c ∷ [])
-instead l p e h = h ∙ ap (λ (x : Cell). written l p (x ∷ [])) (sym e)
 
 -- A leaf that fits reads no wire past its own.
 arity-two : (k : ℕ) → k < 20 → arity k ≡ 2
@@ -60,16 +52,3 @@ operation-first w k v i ws (op_leaf l u e) = elim (split k 20) [
       operation-one k v (take i ws) l h
       ∙ (rw (get_or-take i ws 0 0 (omega arith)) (sym (operation-one k v ws l h))))
 ]
-
--- The four cells of a leaf, as they are put.
-pub leaf-group : (l : List ℕ) (k v p s : ℕ) (ws v1 v2 v3 v4 : List ℕ) → v1 ≡ written l p (not_cell s ∷ []) →
-    v2 ≡ written v1 (p + 1) (word_register (p + 3) ∷ []) → v3 ≡ written v2 (p + 2) (operation_cell k v ws ∷ []) →
-    v4 ≡ written v3 (p + 3) (choice_cell s (p + 2) (p + 1) ∷ []) → v4 ≡ written l p (leaf_block k v p s ws).cells
-leaf-group l k v p s ws v1 v2 v3 v4 e1 e2 e3 e4 =
-    four (not_cell s) (word_register (p + 3)) (operation_cell k v ws) (choice_cell s (p + 2) (p + 1)) l v1 v2 v3 v4
-    p (p + 1) (p + 2) (p + 3) refl refl refl e1 e2 e3 e4
-    ∙ ap (written l p) (leaf-places (operation_cell k v ws))
-  where
-    leaf-places : (c : Cell) → not_cell s ∷ word_register (p + 3) ∷ c ∷ choice_cell s (p + 2) (p + 1) ∷ []
-        ≡ not_cell s ∷ word_register (3 after p) ∷ c ∷ choice_cell s (2 after p) (1 after p) ∷ []
-    leaf-places c = rw (plus-after 1 p, plus-after 2 p, plus-after 3 p) refl

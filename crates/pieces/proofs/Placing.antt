@@ -2,11 +2,12 @@
 -- Assumes nothing.
 use Prim.Native.Nat.{ℕ, zero, suc, ◌+◌, ◌*◌, ◌≤◌, ◌<◌}
 use mathlib.Core.Path.{◌≡◌, refl, sym, ap, ◌∙◌}
-use mathlib.Core.List.{List, [], ◌∷◌, ◌++◌}
+use mathlib.Core.List.{List, [], ◌∷◌, ◌++◌, append_assoc}
 use native.Mathlib.Nat.{add-zero, add-suc}
 use native.Mathlib.Omega.{arith}
 use lib.ListN.{length, set, take, drop}
-use lib.Seq.{sets, length-sets, sets-eq, set_comm}
+use lib.Seq.{sets, sets-eq, set_comm, drop-drop}
+use borrow.Rule.Slice.PartMut.{put_mid}
 use Rattle.circuit.specs.Cells.{stride, Cell, cell, numbers_of}
 use Rattle.circuit.proofs.Lengths.{numbers-length}
 use Rattle.circuit.specs.Pieces.{◌after◌}
@@ -24,7 +25,7 @@ sets-append (v ∷ a) b l i =
     let u : suc i + length a ≡ i + suc (length a) = omega arith in
     sets-append a b (set l i v) (suc i) ∙ ap (λ (n : ℕ). sets (sets (set l i v) (suc i) a) n b) u
 
-pub placed-then : (a b l : List ℕ) (i j : ℕ) → i + length a ≡ j → placed (placed l i a) j b ≡ placed l i (a ++ b)
+placed-then : (a b l : List ℕ) (i j : ℕ) → i + length a ≡ j → placed (placed l i a) j b ≡ placed l i (a ++ b)
 unfolding placed
 placed-then a b l i j e = ap (λ (n : ℕ). sets (sets l i a) n b) (sym e) ∙ sym (sets-append a b l i)
 
@@ -41,45 +42,38 @@ sets-before (v ∷ a) b l i j e =
     ap (λ (u : List ℕ). sets u (suc i) a) (set-sets b l i j v (omega arith))
     ∙ sets-before a b (set l i v) (suc i) j (omega arith)
 
-pub length-placed : (l : List ℕ) (i : ℕ) (vs : List ℕ) → length (placed l i vs) ≡ length l
-unfolding placed
-length-placed l i vs = length-sets l i vs
-
-pub placed-none : (l : List ℕ) (i : ℕ) → placed l i [] ≡ l
-unfolding placed
-placed-none l i = refl
-
 -- The list's own numbers stand before and behind.
 pub placed-within : (vs l : List ℕ) (i : ℕ) → i + length vs ≤ length l → placed l i vs ≡ take i l ++ vs ++ drop (i + length vs) l
 unfolding placed
 placed-within vs l i h = sets-eq vs l i h
 
+-- A list copied over a part of another is placed there.
+pub copied : (l vs w : List ℕ) (i k : ℕ) → w ≡ vs → k ≡ length vs → i + k ≤ length l → put_mid i k l w ≡ placed l i vs
+copied l vs w i k e n h =
+    rw (e, drop-drop k i l, ← append_assoc (take i l) vs (drop (i + k) l), n) (sym (placed-within vs l i (omega arith)))
+
 -- Cells: the same laws, counted in cells.
-pub numbers-append : (a b : List Cell) → numbers_of (a ++ b) ≡ numbers_of a ++ numbers_of b
+numbers-append : (a b : List Cell) → numbers_of (a ++ b) ≡ numbers_of a ++ numbers_of b
 numbers-append [] b = refl
 numbers-append (cell k x y z ∷ a) b = ap (λ (l : List ℕ). k ∷ x ∷ y ∷ z ∷ l) (numbers-append a b)
 
-pub length-written : (l : List ℕ) (p : ℕ) (cs : List Cell) → length (written l p cs) ≡ length l
-unfolding written
-length-written l p cs = length-placed l (p * stride) (numbers_of cs)
-
 pub written_none : (l : List ℕ) (p : ℕ) → l ≡ written l p []
-unfolding written
-written_none l p = sym (placed-none l (p * stride))
+unfolding written placed
+written_none l p = refl
 
 module _ (l : List ℕ) (p : ℕ) (a b : List Cell) (q : ℕ) (e : p + length a ≡ q) where
   seam : p * stride + length (numbers_of a) ≡ q * stride
   seam = omega (arith, numbers-length a)
 
-  written_then : written (written l p a) q b ≡ written l p (a ++ b)
+  pub written_then : written (written l p a) q b ≡ written l p (a ++ b)
   unfolding written
   written_then =
       placed-then (numbers_of a) (numbers_of b) l (p * stride) (q * stride) seam
       ∙ ap (placed l (p * stride)) (sym (numbers-append a b))
 
-  written-before : written (written l q b) p a ≡ written l p (a ++ b)
+  pub written_before : written (written l q b) p a ≡ written l p (a ++ b)
   unfolding written placed
-  written-before =
+  written_before =
       sets-before (numbers_of a) (numbers_of b) l (p * stride) (q * stride) seam
       ∙ ap (placed l (p * stride)) (sym (numbers-append a b))
 
@@ -88,4 +82,4 @@ module _ (l : List ℕ) (p : ℕ) (a b : List Cell) (q : ℕ) (e : p + length a 
   then v w d f = f ∙ (ap (λ (u : List ℕ). written u q b) d ∙ written_then)
 
   pub before : (v w : List ℕ) → v ≡ written l q b → w ≡ written v p a → w ≡ written l p (a ++ b)
-  before v w d f = f ∙ (ap (λ (u : List ℕ). written u p a) d ∙ written-before)
+  before v w d f = f ∙ (ap (λ (u : List ℕ). written u p a) d ∙ written_before)

@@ -1,28 +1,24 @@
--- Law: what stands in front of and behind a test with its branches, from what the calls left. `seams` cites this. Assumes nothing.
+-- Law: how long a round of a Rec is. `compiler` cites this. Assumes nothing.
 use Prim.Native.Nat.{ℕ, ◌+◌, ◌*◌, ◌≤◌}
-use mathlib.Core.Path.{◌≡◌, refl, sym, ap, ◌∙◌}
-use mathlib.Core.List.{List, [], ◌∷◌, ◌++◌}
+use mathlib.Core.Path.{◌≡◌, ◌∙◌}
+use mathlib.Core.List.{List}
 use native.Mathlib.Omega.{arith}
 use lib.ListN.{length, take, length-append}
 use lib.Seq.{length-take-le}
 use Rattle.meaning.specs.Choices.{padded}
 use Rattle.meaning.proofs.Lists.{padded-length}
-use Rattle.circuit.specs.Cells.{Cell, and_cell, or_cell}
-use Rattle.circuit.specs.Pieces.{◌after◌, wires_from, keeps, kept, choices, registers}
+use Rattle.circuit.specs.Cells.{Cell}
+use Rattle.circuit.specs.Pieces.{◌after◌, wires_from, keeps, choices}
 use Rattle.circuit.proofs.Lengths.{wires-length, keeps-length, kept-length, choices-length}
-use Rattle.pieces.specs.declared.seams.Forked.{Forked}
-use Rattle.pieces.specs.Writing.{written}
-use Rattle.pieces.specs.Seams.{Round, round_of, merge_cells}
-use Rattle.pieces.proofs.Placing.{plus-after, then, before}
-use Rattle.pieces.proofs.Groups.{two}
-use Rattle.pieces.proofs.Turns.{wires-sixteen, padded-first}
+use Rattle.pieces.specs.Seams.{round_of}
+use Rattle.pieces.proofs.Turns.{wires-sixteen}
 
 -- The choices of a round, and all its cells, are as many as the words say.
 module _ (b s : ℕ) (xs : List ℕ) where
   abbrev chosen : List Cell
   chosen = choices b (wires_from (1 after b) (length xs)) xs
 
-  pub chosen-long : length chosen ≡ length xs
+  chosen-long : length chosen ≡ length xs
   chosen-long =
       choices-length (wires_from (1 after b) (length xs)) xs b (wires-length (length xs) (1 after b))
       ∙ wires-length (length xs) (1 after b)
@@ -57,55 +53,3 @@ held-sixteen b s n words h e =
       wires-length (length (take n words)) (1 after R.o),
       length-take-le n words (omega arith),
     ))
-
--- A round of a Rec at b on the words xs: o, m and k are its places as the code has them.
-module _ (b s n o m k : ℕ) (xs : List ℕ) (n-is : n ≡ length xs) (o_is : o ≡ b + 1 + n) (m-is : m ≡ o + 1) (k-is : k ≡ m + n)
-    (l v1 v2 v3 fed live kw : List ℕ) (S : v1 ≡ written l o (or_cell s b ∷ [])) (W : fed ≡ padded 16 (wires_from (b + 1) n))
-    (C : v2 ≡ written v1 m (choices b (take n fed) xs)) (U : live ≡ padded 16 (wires_from m n))
-    (K1 : kw ≡ padded 16 (kept k (take n live))) (K2 : v3 ≡ written v2 k (keeps k o (take n live))) where
-  abbrev R : Round
-  R = round_of b s xs
-
-  o-at : o ≡ R.o
-  o-at = omega (arith, n-is)
-
-  m-at : m ≡ 1 after R.o
-  m-at = omega (arith, o-at)
-
-  k-at : k ≡ 1 after R.o + length xs
-  k-at = omega (arith, m-at, n-is)
-
-  fed-is : take n fed ≡ wires_from (1 after b) (length xs)
-  fed-is =
-      ap (take n) (W ∙ rw (plus-after 1 b, n-is) refl)
-      ∙ padded-first 16 n (wires_from (1 after b) (length xs)) (wires-length (length xs) (1 after b) ∙ sym n-is)
-
-  pub round-words : live ≡ padded 16 R.us
-  round-words = U ∙ rw (m-at, n-is) refl
-
-  live-is : take n live ≡ R.us
-  live-is = ap (take n) round-words ∙ padded-first 16 n R.us (wires-length (length xs) (1 after R.o) ∙ sym n-is)
-
-  pub round-kept : kw ≡ padded 16 R.ks
-  round-kept = K1 ∙ rw (live-is, k-at) refl
-
-  pub round-written : v3 ≡ written l o R.cells
-  round-written =
-      then l o (or_cell s b ∷ []) (chosen b s xs ++ keeps k R.o R.us) m (omega arith) v1 v3 S
-      (then v1 m (chosen b s xs) (keeps k R.o R.us) k (omega (arith, chosen-long b s xs, n-is)) v2 v3 (C ∙ rw fed-is refl)
-      (K2 ∙ rw (live-is, o-at) refl))
-      ∙ rw k-at refl
-
--- Behind the branches of a Rec: the registers, and the one in front of them.
-pub feed-written : (p : ℕ) (c : Cell) (xs v1 v2 v3 w : List ℕ) → v1 ≡ w → v2 ≡ written v1 (p + 1) (registers xs) →
-    v3 ≡ written v2 p (c ∷ []) → v3 ≡ written w p (c ∷ registers xs)
-feed-written p c xs v1 v2 v3 w E G A =
-    before v1 p (c ∷ []) (registers xs) (p + 1) (omega arith) v2 v3 G A ∙ ap (λ (u : List ℕ). written u p (c ∷ registers xs)) E
-
--- Behind the branches of an Ite: two cells, and the choices.
-pub merge-written : (r : Forked) (xs ys l v1 v2 v3 : List ℕ) → v1 ≡ written l r.next (and_cell r.tested r.left ∷ []) →
-    v2 ≡ written v1 (r.next + 1) (and_cell r.next r.again ∷ []) → v3 ≡ written v2 (r.next + 2) (choices (r.gate + 3) xs ys) →
-    v3 ≡ written l r.next (merge_cells r xs ys)
-merge-written r xs ys l v1 v2 v3 D1 D2 C =
-    then l r.next (and_cell r.tested r.left ∷ and_cell r.next r.again ∷ []) (choices (r.gate + 3) xs ys) (r.next + 2)
-    (omega arith) v2 v3 (two (and_cell r.tested r.left) (and_cell r.next r.again) l v1 v2 r.next (r.next + 1) refl D1 D2) C

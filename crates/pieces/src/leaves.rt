@@ -1,39 +1,34 @@
 // The block of a term without operands, kind 9 and above.
 // docs/READING.md: "Cells".
-ghost use Rattle.std.specs.Prelude.{◌≡◌, [], ◌∷◌, ◌+◌, ◌<◌};
+ghost use Rattle.std.specs.Prelude.{◌≡◌, ◌+◌, ◌<◌};
 ghost use Rattle.meaning.specs.Choices.{padded};
+ghost use Rattle.circuit.specs.Gates.{cell_of};
 ghost use Rattle.circuit.specs.Pieces.{wires_from};
 ghost use Rattle.circuit.specs.Blocks.{operation_cell, leaf_block};
 ghost use Rattle.pieces.specs.Writing.{written, Room};
 
-use crate::cells::{put, wide};
+use crate::cells::place_all;
 use crate::rows::wires;
+use circuit::Cell;
+use meaning::Kind;
 
 // A block that stands in the netlist: the wire that follows it, and its done wire.
-#[derive(Clone, Copy)]
+#[derive(Clone, Copy, Debug, PartialEq, Eq)]
 pub struct Made {
     pub next: u32,
     pub done: u32,
 }
 
 // The operation cell of a leaf: a constant, a copy of a word, or its kind on its words.
-fn operation(netlist: &mut [u32], at: u32, kind: u32, value: u32, words: &[u32; 16])
-    requires { (Room netlist.old at 1) × (kind < 13 → (kind ≡ 9 → ⊥) → value < 16) }
-    ensures { netlist.new
-        ≡ written netlist.old at (operation_cell kind value words.now ∷ []) }
+fn operation(kind: u32, value: u32, words: &[u32; 16]) -> Cell
+    requires { kind < 13 → (kind ≡ 9 → ⊥) → value < 16 }
+    ensures { cell_of result ≡ operation_cell kind value words.now }
 {
-    if kind < 13 {
-        if kind == 9 {
-            put(netlist, at, 9, value, 0, 0);
-        } else {
-            put(netlist, at, 12, words[wide(value)], 0, 0);
-        }
-    } else {
-        if kind < 20 {
-            put(netlist, at, kind, words[0], words[1], 0);
-        } else {
-            put(netlist, at, kind, words[0], 0, 0);
-        }
+    match Kind::from(kind) {
+        Kind::Const => Cell::Constant(value),
+        Kind::Binary => Cell::Operation(kind, words[0], words[1]),
+        Kind::Unary => Cell::Operation(kind, words[0], 0),
+        _ => Cell::Copy(words[value as usize]),
     }
 }
 
@@ -53,10 +48,13 @@ pub fn leaf(
         × (netlist.new ≡ written netlist.old at
         (leaf_block kind value at start words.old).cells) }
 {
-    put(netlist, at, 1, start, 0, 0);
-    put(netlist, at + 1, 10, at + 3, 0, 0);
-    operation(netlist, at + 2, kind, value, words);
-    put(netlist, at + 3, 11, start, at + 2, at + 1);
+    let cells = [
+        Cell::Not(start),
+        Cell::WordRegister(at + 3),
+        operation(kind, value, words),
+        Cell::Choice(start, at + 2, at + 1),
+    ];
+    place_all(netlist, at, &cells);
     wires(words, at + 1, 1);
     Made {
         next: at + 4,

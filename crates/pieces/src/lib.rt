@@ -5,7 +5,7 @@
 //     rows     a wire or a cell for each of a block's words
 //     leaves   the block of a term without operands
 //     seams    what stands in front of and behind a test with its branches
-#![tactic(auto)]
+#![tactic(auto, using(crate::proofs::Turns::writes))]
 
 pub mod cells;
 pub mod leaves;

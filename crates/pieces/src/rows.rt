@@ -2,25 +2,25 @@
 // Words stand in a lent array of 16 wires, of which those past n are not read; a row that is
 // written there has 0 past n.
 // docs/READING.md: "Cells".
-ghost use Rattle.std.specs.Prelude.{◌≡◌, ◌+◌, ◌*◌, ◌≤◌, length, take};
+ghost use Rattle.std.specs.Prelude.{◌≡◌, ◌+◌, ◌*◌, ◌<◌, ◌≤◌, ℕ, length, map, take};
+ghost use Rattle.std.specs.List.{range_with_len};
 ghost use Rattle.meaning.specs.Choices.{padded};
+ghost use Rattle.circuit.specs.Gates.{cell_of};
 ghost use Rattle.circuit.specs.Pieces.{wires_from, keeps, kept, choices, «registers»};
 ghost use Rattle.circuit.specs.Compiling.{input_cells};
 ghost use Rattle.pieces.specs.Writing.{placed, written, Room};
 
-use crate::cells::{put, wide};
+use crate::cells::{place, place_all};
+use circuit::Cell;
 
 // The n wires from `at` on.
 pub fn wires(row: &mut [u32; 16], at: u32, n: u32)
     requires { (n ≤ 16) × (at ≤ 4096) }
     ensures { row.new ≡ padded 16 (wires_from at n) }
 {
-    *row = [0u32; 16];
-    let mut j: u32 = 0;
-    while j < n {
-        let i = wide(j);
-        row[i] = at + j;
-        j = j + 1;
+    *row = [0; 16];
+    for j in 0..n {
+        row[j as usize] = at + j;
     }
 }
 
@@ -38,15 +38,25 @@ pub fn keep(
         × (netlist.new
         ≡ written netlist.old at (keeps at start (take n words.now))) }
 {
-    *row = [0u32; 16];
-    let mut j: u32 = 0;
-    while j < n {
-        let i = wide(j);
-        let p = at + 2 * j;
-        put(netlist, p, 10, p + 1, 0, 0);
-        put(netlist, p + 1, 11, start, words[i], p);
-        row[i] = p;
-        j = j + 1;
+    *row = [0; 16];
+    for (j, word) in words[..n as usize].iter().enumerate() {
+        let p = at + 2 * j as u32;
+        let pair = [Cell::WordRegister(p + 1), Cell::Choice(start, *word, p)];
+        place_all(netlist, p, &pair);
+        row[j] = p;
+    }
+}
+
+// A cell for each number below n: any row of which the closure gives the cells is written.
+fn place_each<F: Fn(u32) -> Cell>(netlist: &mut [u32], at: u32, n: u32, cell: F)
+    requires callable { (j : ℕ) → j < n → F.pre cell j }
+    requires room { Room netlist.old at n }
+    ensures { (row : ℕ → _)
+        → ((j : ℕ) (c : _) → j < n → F.post cell j c → cell_of c ≡ row j)
+        → netlist.new ≡ written netlist.old at (map row (range_with_len 0 n)) }
+{
+    for j in 0..n {
+        place(netlist, at + j, cell(j));
     }
 }
 
@@ -57,12 +67,12 @@ pub fn choose(netlist: &mut [u32], at: u32, bit: u32, first: &[u32; 16], second:
     ensures { netlist.new ≡ written netlist.old at
         (choices bit (take n first.now) (take n second.now)) }
 {
-    let mut j: u32 = 0;
-    while j < n {
-        let i = wide(j);
-        put(netlist, at + j, 11, bit, first[i], second[i]);
-        j = j + 1;
-    }
+    place_each(
+        netlist,
+        at,
+        n,
+        |j| Cell::Choice(bit, first[j as usize], second[j as usize]),
+    );
 }
 
 // A register of each of n words.
@@ -71,12 +81,7 @@ pub fn registers(netlist: &mut [u32], at: u32, words: &[u32; 16], n: u32)
     ensures { netlist.new
         ≡ written netlist.old at («registers» (take n words.now)) }
 {
-    let mut j: u32 = 0;
-    while j < n {
-        let i = wide(j);
-        put(netlist, at + j, 10, words[i], 0, 0);
-        j = j + 1;
-    }
+    place_each(netlist, at, n, |j| Cell::WordRegister(words[j as usize]));
 }
 
 // The n input cells, behind load.
@@ -85,11 +90,7 @@ pub fn inputs(netlist: &mut [u32], n: u32)
     ensures { netlist.new
         ≡ written netlist.old 1 (input_cells 0 n) }
 {
-    let mut j: u32 = 0;
-    while j < n {
-        put(netlist, 1 + j, 8, j, 0, 0);
-        j = j + 1;
-    }
+    place_each(netlist, 1, n, Cell::Input);
 }
 
 // The first n words with m others behind them.
@@ -98,10 +99,7 @@ pub fn join(words: &mut [u32; 16], n: u32, others: &[u32; 16], m: u32)
     ensures { words.new
         ≡ placed words.old n (take m others.now) }
 {
-    let mut j: u32 = 0;
-    while j < m {
-        let i = wide(j);
-        words[wide(n + j)] = others[i];
-        j = j + 1;
-    }
+    let n = n as usize;
+    let m = m as usize;
+    words[n..n + m].copy_from_slice(&others[..m]);
 }

@@ -7,13 +7,14 @@ ghost use Rattle.circuit.specs.Pieces.{wires_from, «registers»};
 ghost use Rattle.pieces.specs.Writing.{written, Room, ending_on};
 ghost use Rattle.pieces.specs.Seams.{round_of, merge_cells};
 
-use crate::cells::{ending, put};
+use crate::cells::{ending, place, place_all};
 use crate::leaves::Made;
 use crate::rows::{choose, keep, registers, wires};
+use circuit::Cell;
 
 // A test with two branches in the netlist: where its gates stand and what follows it; the done
 // wires of the test, of the branch left by and of the other.
-#[derive(Clone, Copy)]
+#[derive(Clone, Copy, Debug, PartialEq, Eq)]
 pub struct Forked {
     pub gate: u32,
     pub next: u32,
@@ -40,7 +41,7 @@ pub fn round(
         (round_of at start (take n words.old)).cells) }
 {
     let o = at + 1 + n;
-    put(netlist, o, 3, start, at, 0);
+    place(netlist, o, Cell::Or(start, at));
     wires(kept, at + 1, n);
     choose(netlist, o + 1, at, kept, words, n);
     wires(words, o + 1, n);
@@ -60,7 +61,7 @@ pub fn feed(netlist: &mut [u32], at: u32, both: Forked, words: &[u32; 16], n: u3
     let p = both.next;
     ending(netlist, p, both.tested, both.left, both.again);
     registers(netlist, at + 1, words, n);
-    put(netlist, at, 4, p + 2, 0, 0);
+    place(netlist, at, Cell::LowRegister(p + 2));
     Made {
         next: p + 7,
         done: p + 6,
@@ -84,8 +85,8 @@ pub fn merge(
         (merge_cells both (take m words.old) (take m others.now))) }
 {
     let p = both.next;
-    put(netlist, p, 2, both.tested, both.left, 0);
-    put(netlist, p + 1, 2, p, both.again, 0);
+    let dones = [Cell::And(both.tested, both.left), Cell::And(p, both.again)];
+    place_all(netlist, p, &dones);
     choose(netlist, p + 2, both.gate + 3, words, others, m);
     wires(words, p + 2, m);
     Made {

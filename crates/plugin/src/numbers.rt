@@ -1,5 +1,6 @@
-// Each answer as the numbers that C sees: a refusal's number and place first, 0 and 0 where there is
-// none. `meaning`'s `specs/Answers.antt` and `circuit`'s `specs/Compiling.antt` say which is which.
+// Each answer as the numbers that C sees: a refusal's number and place first, 0 and 0 where there
+// is none. `meaning`'s `specs/Answers.antt` and `circuit`'s `specs/Compiling.antt` say which is
+// which.
 ghost use Rattle.std.specs.Prelude.{◌≡◌, ◌++◌, ◌-◌, ◌≤◌, replicate};
 ghost use Rattle.meaning.specs.Choices.{bit};
 ghost use Rattle.meaning.specs.Refusals.{refusal_numbers};

@@ -5,162 +5,107 @@
 //
 //     term     by the kind: the four below, or `leaves::leaf`
 //     seq, par, ite, rounds   the combinators; `rounds` is the round evaluator of Rec
-#![tactic(auto)]
+#![tactic(auto, using(crate::proofs::Parts::by_kind))]
 
-ghost use Rattle.std.specs.Prelude.{◌≡◌};
-ghost use Rattle.meaning.specs.Terms.{kind_of};
+ghost use Rattle.std.specs.Prelude.{◌≡◌, ◌<◌, ◌≤◌};
+ghost use Rattle.meaning.specs.Terms.{kind_of, count};
 ghost use Rattle.leaves.specs.Results.{Leaves};
-ghost use Rattle.runs.specs.Runs.{Startable, term_from};
+ghost use Rattle.runs.specs.Runs.{term_from};
 
-use meaning::End;
+use meaning::Kind;
+use terms::Accepted;
 
 // The run of term k, by its kind.
 #[cycle(ite_par_rounds_seq_term)]
 pub fn term(
-    width: u32,
-    table: &[u32],
-    given: &[u32; 256],
+    table: &Accepted,
     k: usize,
     words: &mut [u32; 16],
     start: u32,
     limit: u32,
-) -> End
-    requires { Startable width table.now given.now k start limit }
-    ensures { Leaves (term_from width table.now k start limit words.old) result words.new }
+) -> Option<u32>
+    requires { (k < count table.now.numbers.now) × (start ≤ limit) }
+    ensures { Leaves (term_from table.now.width table.now.numbers.now k start limit words.old) result words.new }
 {
-    let kind = tables::number(table, k, 0);
-    match kind {
-        1 => seq(width, table, given, k, words, start, limit),
-        2 => par(width, table, given, k, words, start, limit),
-        3 => ite(width, table, given, k, words, start, limit),
-        4 => rounds(width, table, given, k, words, start, limit),
-        _ => leaves::leaf(
-            width,
-            kind,
-            tables::number(table, k, 2),
-            words,
-            start,
-            limit,
-        ),
+    match table.kind(k) {
+        Kind::Seq => seq(table, k, words, start, limit),
+        Kind::Par => par(table, k, words, start, limit),
+        Kind::Ite => ite(table, k, words, start, limit),
+        Kind::Rec => rounds(table, k, words, start, limit),
+        _ => {
+            let kind = table.number(k, 0);
+            let b = table.number(k, 2);
+            leaves::leaf(table.width, kind, b, words, start, limit)
+        }
     }
 }
 
 // Seq: f, and from its end on g, on f's words.
 #[cycle(ite_par_rounds_seq_term)]
-fn seq(
-    width: u32,
-    table: &[u32],
-    given: &[u32; 256],
-    k: usize,
-    words: &mut [u32; 16],
-    start: u32,
-    limit: u32,
-) -> End
-    requires { Startable width table.now given.now k start limit × (kind_of table.now k ≡ 1) }
-    ensures { Leaves (term_from width table.now k start limit words.old) result words.new }
+fn seq(table: &Accepted, k: usize, words: &mut [u32; 16], start: u32, limit: u32) -> Option<u32>
+    requires { (k < count table.now.numbers.now) × (start ≤ limit) × (kind_of table.now.numbers.now k ≡ 1) }
+    ensures { Leaves (term_from table.now.width table.now.numbers.now k start limit words.old) result words.new }
 {
-    let f = tables::operand(table, k, 1);
-    let g = tables::operand(table, k, 2);
-    let first = term(width, table, given, f, words, start, limit);
-    let End::Ended(at) = first else {
-        return End::Unfinished;
-    };
-    term(width, table, given, g, words, at, limit)
+    let f = table.operand(k, 1);
+    let g = table.operand(k, 2);
+    let end = term(table, f, words, start, limit)?;
+    term(table, g, words, end, limit)
 }
 
 // Par: f and g from the same start on the same words; the later end, and f's words, then g's.
 #[cycle(ite_par_rounds_seq_term)]
-fn par(
-    width: u32,
-    table: &[u32],
-    given: &[u32; 256],
-    k: usize,
-    words: &mut [u32; 16],
-    start: u32,
-    limit: u32,
-) -> End
-    requires { Startable width table.now given.now k start limit × (kind_of table.now k ≡ 2) }
-    ensures { Leaves (term_from width table.now k start limit words.old) result words.new }
+fn par(table: &Accepted, k: usize, words: &mut [u32; 16], start: u32, limit: u32) -> Option<u32>
+    requires { (k < count table.now.numbers.now) × (start ≤ limit) × (kind_of table.now.numbers.now k ≡ 2) }
+    ensures { Leaves (term_from table.now.width table.now.numbers.now k start limit words.old) result words.new }
 {
-    let f = tables::operand(table, k, 1);
-    let g = tables::operand(table, k, 2);
+    let f = table.operand(k, 1);
+    let g = table.operand(k, 2);
     let mut others = *words;
-    let first = term(width, table, given, f, words, start, limit);
-    let End::Ended(c) = first else {
-        return End::Unfinished;
-    };
-    let second = term(width, table, given, g, &mut others, start, limit);
-    let End::Ended(d) = second else {
-        return End::Unfinished;
-    };
-    let n = given[f] as usize;
-    leaves::join(words, n, &others);
-    End::Ended(leaves::later(c, d))
+    let first = term(table, f, words, start, limit)?;
+    let second = term(table, g, &mut others, start, limit)?;
+    leaves::join(words, table.gives(f) as usize, &others);
+    Some(first.max(second))
 }
 
 // Ite: e on a copy of the words, and from its end on the branch that its word takes.
 #[cycle(ite_par_rounds_seq_term)]
-fn ite(
-    width: u32,
-    table: &[u32],
-    given: &[u32; 256],
-    k: usize,
-    words: &mut [u32; 16],
-    start: u32,
-    limit: u32,
-) -> End
-    requires { Startable width table.now given.now k start limit × (kind_of table.now k ≡ 3) }
-    ensures { Leaves (term_from width table.now k start limit words.old) result words.new }
+fn ite(table: &Accepted, k: usize, words: &mut [u32; 16], start: u32, limit: u32) -> Option<u32>
+    requires { (k < count table.now.numbers.now) × (start ≤ limit) × (kind_of table.now.numbers.now k ≡ 3) }
+    ensures { Leaves (term_from table.now.width table.now.numbers.now k start limit words.old) result words.new }
 {
-    let e = tables::operand(table, k, 1);
-    let f = tables::operand(table, k, 2);
-    let g = tables::operand(table, k, 3);
+    let e = table.operand(k, 1);
+    let f = table.operand(k, 2);
+    let g = table.operand(k, 3);
     let mut choice = *words;
-    let chosen = term(width, table, given, e, &mut choice, start, limit);
-    let End::Ended(at) = chosen else {
-        return End::Unfinished;
-    };
+    let end = term(table, e, &mut choice, start, limit)?;
     if choice[0] != 0 {
-        return term(width, table, given, f, words, at, limit);
+        term(table, f, words, end, limit)
+    } else {
+        term(table, g, words, end, limit)
     }
-    term(width, table, given, g, words, at, limit)
 }
 
 // Rec: round by round, e on a copy of the words; where its word is not zero f ends the run, else g
 // goes on, and one cycle feeds its words back.
 #[cycle(ite_par_rounds_seq_term)]
-fn rounds(
-    width: u32,
-    table: &[u32],
-    given: &[u32; 256],
-    k: usize,
-    words: &mut [u32; 16],
-    start: u32,
-    limit: u32,
-) -> End
-    requires { Startable width table.now given.now k start limit × (kind_of table.now k ≡ 4) }
-    ensures { Leaves (term_from width table.now k start limit words.old) result words.new }
+fn rounds(table: &Accepted, k: usize, words: &mut [u32; 16], start: u32, limit: u32) -> Option<u32>
+    requires { (k < count table.now.numbers.now) × (start ≤ limit) × (kind_of table.now.numbers.now k ≡ 4) }
+    ensures { Leaves (term_from table.now.width table.now.numbers.now k start limit words.old) result words.new }
 {
-    let e = tables::operand(table, k, 1);
-    let f = tables::operand(table, k, 2);
-    let g = tables::operand(table, k, 3);
+    let e = table.operand(k, 1);
+    let f = table.operand(k, 2);
+    let g = table.operand(k, 3);
     let mut at = start;
     loop {
         let mut test = *words;
-        let tested = term(width, table, given, e, &mut test, at, limit);
-        let End::Ended(c) = tested else {
-            return End::Unfinished;
-        };
+        let tested = term(table, e, &mut test, at, limit)?;
         if test[0] != 0 {
-            return term(width, table, given, f, words, c, limit);
+            return term(table, f, words, tested, limit);
         }
-        let next = term(width, table, given, g, words, c, limit);
-        let End::Ended(d) = next else {
-            return End::Unfinished;
-        };
-        if d == limit {
-            return End::Unfinished;
+        let end = term(table, g, words, tested, limit)?;
+        if end == limit {
+            return None;
         }
-        at = d + 1;
+        at = end + 1;
     }
 }

@@ -5,7 +5,7 @@ use mathlib.Core.Path.{◌≡◌, sym, ◌∙◌}
 use mathlib.Core.Bool.{Bool}
 use mathlib.Core.List.{List}
 use lib.ListN.{length}
-use Rattle.meaning.specs.declared.Verdict.{Verdict}
+use Rattle.meaning.specs.Refusals.{Verdict}
 use Rattle.meaning.specs.Words.{Words}
 use Rattle.circuit.specs.Simulated.{power_up_verdict, step_verdict, wires_at_start, wires_after}
 

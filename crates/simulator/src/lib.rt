@@ -13,29 +13,28 @@ pub mod verdicts;
 ghost use Rattle.std.specs.Prelude.{◌≡◌, length};
 ghost use Rattle.circuit.specs.Simulated.{power_up_verdict, step_verdict, wires_at_start, wires_after};
 
-use meaning::Verdict;
+use meaning::Refusal;
 
 // Cycle 0 from power-up, where load and done count as high before it. Word registers start 0.
+#[tactic(auto, unfolding(circuit::specs::Simulated::wires_at_start))]
 pub fn power_up(
     width: u32,
     netlist: &[u32],
     load: bool,
     words: &[u32],
     wires: &mut [u32],
-) -> Verdict
+) -> Result<(), Refusal>
     ensures { (result ≡ power_up_verdict width netlist.now words.now
         (length wires.old)) × (wires.new ≡ wires_at_start width
         netlist.now load words.now wires.old) }
 {
-    let verdict = verdicts::power_up(width, netlist, words, wires.len());
-    let Verdict::Accepted = verdict else {
-        return verdict;
-    };
+    verdicts::power_up(width, netlist, words, wires.len())?;
     cycles::first(width, netlist, load, words, wires);
-    Verdict::Accepted
+    Ok(())
 }
 
 // A cycle from all wires of the cycle before, which are taken as they are.
+#[tactic(auto, unfolding(circuit::specs::Simulated::wires_after))]
 pub fn step(
     width: u32,
     netlist: &[u32],
@@ -43,16 +42,13 @@ pub fn step(
     load: bool,
     words: &[u32],
     after: &mut [u32],
-) -> Verdict
+) -> Result<(), Refusal>
     ensures { (result ≡ step_verdict width netlist.now before.now
         words.now (length after.old)) × (after.new ≡ wires_after width
         netlist.now before.now load words.now
         after.old) }
 {
-    let verdict = verdicts::step(width, netlist, before, words, after.len());
-    let Verdict::Accepted = verdict else {
-        return verdict;
-    };
+    verdicts::step(width, netlist, before, words, after.len())?;
     cycles::next(width, netlist, before, load, words, after);
-    Verdict::Accepted
+    Ok(())
 }

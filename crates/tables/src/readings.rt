@@ -1,53 +1,45 @@
-// What the arrays know of a term's operands, and what the term gives: the refusals 7 and 8.
+// What is known of a term's operands, and what the term gives: the refusals 7 and 8.
 // docs/READING.md: "Term tables", "Refusal numbers".
-ghost use Rattle.std.specs.Prelude.{◌≡◌, ◌*◌, ◌+◌, ◌<◌, ◌≤◌, length};
-ghost use Rattle.meaning.specs.Terms.{number_of};
-ghost use Rattle.tables.specs.Readings.{read_at, shape_of, Ready};
+ghost use Rattle.std.specs.Prelude.{◌≡◌, ◌≤◌, true};
+ghost use Rattle.meaning.specs.Terms.{kind_of};
+ghost use Rattle.meaning.specs.Checks.{operands_of, operands_below, operand_tree};
+ghost use Rattle.meaning.specs.Answers.{known_of};
+ghost use Rattle.shapes.specs.Shapes.{Small};
+ghost use Rattle.tables.specs.Readings.{shape_of, Ready};
 
-use shapes::{Known, Shape};
+use meaning::{Cause, Kind, Known};
 
-// What the arrays know of operand j of term k.
-fn read(
-    table: &[u32],
-    k: usize,
-    j: usize,
-    ins: &[u32; 256],
-    outs: &[u32; 256],
-    sizes: &[u32; 256],
-) -> Known
-    requires { (j < 4) × (k * 4 + 4 ≤ length table.now) × (number_of table.now k j < 256) }
-    ensures { result ≡ read_at ins.now outs.now sizes.now
-        (number_of table.now k j) }
+// What is known of operand j of term k.
+#[tactic(auto, using(crate::proofs::Combined::low_operands))]
+fn read(table: &[u32], k: usize, j: usize, terms: &[Known; 256]) -> Known
+    requires ready { Ready table.now k terms.now }
+    requires below { operands_below table.now k (operands_of (kind_of table.now k)) ≡ true }
+    requires one { (1 ≤ j) × (j ≤ operands_of (kind_of table.now k)) }
+    ensures is { result ≡ known_of (operand_tree table.now k j) }
+    ensures small { Small result }
 {
-    let f = crate::operand(table, k, j);
-    Known {
-        ins: ins[f],
-        outs: outs[f],
-        cells: sizes[f],
-    }
+    terms[crate::operand(table, k, j)]
 }
 
-// What term k gives, its operands being lower terms that the arrays know.
-pub fn shape_of(
-    table: &[u32],
-    k: usize,
-    ins: &[u32; 256],
-    outs: &[u32; 256],
-    sizes: &[u32; 256],
-) -> Shape
-    requires { Ready table.now k ins.now outs.now sizes.now }
+// What term k gives, its operands being lower terms, which are known.
+#[tactic(auto, using(crate::proofs::Combined::found_by_kind))]
+pub fn shape_of(table: &[u32], k: usize, terms: &[Known; 256]) -> Result<Known, Cause>
+    requires ready { Ready table.now k terms.now }
+    requires below { operands_below table.now k (operands_of (kind_of table.now k)) ≡ true }
     ensures { result ≡ shape_of table.now k }
 {
     let kind = crate::number(table, k, 0);
-    if kinds::operands(kind) == 0 {
-        return shapes::leaf(kind, crate::number(table, k, 1));
-    }
-    let e = read(table, k, 1, ins, outs, sizes);
-    let f = read(table, k, 2, ins, outs, sizes);
-    match kind {
-        1 => shapes::seq(e, f),
-        2 => shapes::par(e, f),
-        3 => shapes::ite(e, f, read(table, k, 3, ins, outs, sizes)),
-        _ => shapes::rec(e, f, read(table, k, 3, ins, outs, sizes)),
+    match Kind::from(kind) {
+        Kind::Seq => shapes::seq(read(table, k, 1, terms), read(table, k, 2, terms)),
+        Kind::Par => shapes::par(read(table, k, 1, terms), read(table, k, 2, terms)),
+        Kind::Ite => {
+            let e = read(table, k, 1, terms);
+            shapes::ite(e, read(table, k, 2, terms), read(table, k, 3, terms))
+        }
+        Kind::Rec => {
+            let e = read(table, k, 1, terms);
+            shapes::rec(e, read(table, k, 2, terms), read(table, k, 3, terms))
+        }
+        _ => Ok(shapes::leaf(kind, crate::number(table, k, 1))),
     }
 }

@@ -1,108 +1,122 @@
 -- Law: the facts of a table, from the width, the length, the scan and the cells of the main term, in the order of the checks.
 -- Cited by the proof of `check`. Assumes nothing.
 use Prim.Native.Nat.{ℕ, zero, suc, ◌+◌, ◌%◌, ◌≤◌, ◌<◌}
-use mathlib.Core.Path.{◌≡◌, refl, ◌∙◌}
+use mathlib.Core.Path.{◌≡◌, refl, sym, ◌∙◌}
 use mathlib.Core.Bool.{Bool, true, false}
 use mathlib.Core.List.{List}
 use native.Mathlib.Nat.{min-le_right}
 use native.Mathlib.Omega.{arith}
-use lib.Dec.{eqb, leb}
-use lib.ListN.{length}
+use lib.Dec.{leb}
+use lib.ListN.{length, get_or}
 use borrow.Author.Tests.{leb-true, eqb-true, le-leb, lt-leb}
-use Rattle.meaning.specs.declared.Verdict.{Verdict}
-use Rattle.meaning.specs.declared.Verdict.TheVariants as verdict
-use Rattle.meaning.specs.declared.Facts.{Facts}
-use Rattle.meaning.specs.Choices.{pick, at}
+use Rattle.std.specs.Prelude.{Result, Ok, Err}
+use Rattle.meaning.specs.declared.Cause.TheVariants as cause
+use Rattle.meaning.specs.declared.Refusal.{Refusal}
+use Rattle.meaning.specs.declared.Known.{Known}
+use Rattle.meaning.specs.Choices.{pick}
+use Rattle.meaning.specs.Refusals.{Check, Verdict, passed, refused, on_verdict}
 use Rattle.meaning.specs.Terms.{count, last_of, main_of}
 use Rattle.meaning.specs.Counts.{ins, size, capped, whole_size}
 use Rattle.meaning.specs.Checks.{width_fits, length_fits, refusal_at, size_verdict, first_refusal, verdict_of}
-use Rattle.meaning.specs.Answers.{on_verdict, facts_of}
+use Rattle.meaning.specs.Answers.{known_of, nothing_known, known_facts, facts_of}
+use Rattle.meaning.proofs.Lists.{facts-at}
 use Rattle.meaning.proofs.Tests.{both}
+use Rattle.meaning.proofs.Verdicts.{went_on}
 use Rattle.tables.specs.Scans.{Scanned}
-use Rattle.terms.specs.Checked.{framed_of, bare_facts}
-use Rattle.tables.proofs.Columns.{at-column}
+use Rattle.terms.specs.Checked.{framed_of}
+use Rattle.terms.proofs.Facts.{answers}
 
-either_way : (b : Bool) (x y z v : Verdict) → x ≡ on_verdict y v (λ r p. verdict.Refused r p) →
-    z ≡ on_verdict z v (λ r p. verdict.Refused r p) →
-    pick b x z ≡ on_verdict (pick b y z) v (λ r p. verdict.Refused r p)
-either_way true x y z v h e = h
-either_way false x y z v h e = e
+-- What follows a check is asked only where it refuses nothing.
+after : (c : Check) (k : ℕ) (x v : Verdict) →
+    on_verdict c (on_verdict x v Err) (λ d. refused d k) ≡ on_verdict (on_verdict c x (λ d. refused d k)) v Err
+after (Ok u) k x v = refl
+after (Err d) k x v = refl
 
--- What follows a scan is asked only where it refuses nothing.
-follows : (number : ℕ → ℕ) (n k : ℕ) (v : Verdict) →
-    first_refusal number n k v ≡ on_verdict (first_refusal number n k verdict.Accepted) v (λ r p. verdict.Refused r p)
+follows : (check : ℕ → Check) (n k : ℕ) (v : Verdict) → first_refusal check n k v ≡ on_verdict (first_refusal check n k passed) v Err
 unfolding first_refusal
-follows number zero k v = refl
-follows number (suc n) k v = either_way (eqb (number k) 0) _ _ _ v (follows number n (suc k) v) refl
-
-pub width_small : (w : ℕ) → width_fits w ≡ true → w ≤ 32
-width_small w h = leb-true _ _ (both (leb 1 w) (leb w 32) h).1
-
--- A table of a length that fits has a last term, and at most 256.
-pub last-below : (t : List ℕ) → length_fits t ≡ true → (last_of t < count t) × (count t ≤ 256) × (length t ≤ 1024)
-last-below t h =
-    let a = both _ _ h in
-    let b = both _ _ a.1 in
-    let l : 1 ≤ length t = leb-true _ _ a.0 in
-    let m : length t % 4 ≡ 0 = eqb-true _ _ b.0 in
-    let u : length t ≤ 1024 = leb-true _ _ b.1 in
-    (omega arith, omega arith, u)
+follows check zero k v = refl
+follows check (suc n) k v = rw (follows check n (suc k) v) (after (check k) k (first_refusal check n (suc k) passed) v)
 
 -- The width and the length come before all that follows.
-first-refused : (a b : Bool) (v : Verdict) (n p : ℕ) →
-    pick a (pick b verdict.Accepted (verdict.Refused 2 0)) (verdict.Refused 1 0) ≡ verdict.Refused n p →
-    pick a (pick b v (verdict.Refused 2 0)) (verdict.Refused 1 0) ≡ verdict.Refused n p
-first-refused true true v n p h = let z : ◌≡◌ {A = ℕ} 0 1 = cc in absurd (omega arith)
-first-refused true false v n p h = h
-first-refused false b v n p h = h
+framed : {A : Type 0} (a b : Bool) (v : Verdict) (x : A) (f : Refusal → A) →
+    on_verdict (pick a (pick b v (refused cause.TableLength 0)) (refused cause.Width 0)) x f
+    ≡ on_verdict (pick a (pick b passed (refused cause.TableLength 0)) (refused cause.Width 0)) (on_verdict v x f) f
+framed true true v x f = refl
+framed true false v x f = refl
+framed false b v x f = refl
 
-both-passed : (a b : Bool) → pick a (pick b verdict.Accepted (verdict.Refused 2 0)) (verdict.Refused 1 0) ≡ verdict.Accepted →
-    (a ≡ true) × (b ≡ true)
-both-passed true true h = (refl, refl)
-both-passed true false h = let z : ◌≡◌ {A = ℕ} 0 1 = cc in absurd (omega arith)
-both-passed false b h = let z : ◌≡◌ {A = ℕ} 0 1 = cc in absurd (omega arith)
+chained : (u v : Verdict) (f : List Known) →
+    ◌≡◌ {A = Result (List Known) Refusal} (on_verdict (on_verdict u v Err) (Ok f) Err) (on_verdict u (on_verdict v (Ok f) Err) Err)
+chained (Ok u) v f = refl
+chained (Err e) v f = refl
+
+fails : (u : Verdict) (f : List Known) (e : Refusal) → ◌≡◌ {A = Result (List Known) Refusal} (Err e) (on_verdict u (Ok f) Err) → u ≡ Err e
+fails (Ok u) f e h = let z : ◌≡◌ {A = ℕ} 0 1 = cc in absurd (omega arith)
+fails (Err d) f e h = cc
 
 module _ (w : ℕ) (t : List ℕ) where
-  pub frame_refused : (n p : ℕ) → framed_of w t ≡ verdict.Refused n p → bare_facts (verdict.Refused n p) ≡ facts_of w t
-  unfolding framed_of facts_of verdict_of
-  frame_refused n p h =
-      rw (first-refused (width_fits w) (length_fits t) (first_refusal (refusal_at w t) (count t) 0 (size_verdict t)) n p h)
+  -- The scan of the terms, and then the size.
+  abbrev scan : Verdict
+  scan = first_refusal (refusal_at w t) (count t) 0 passed
 
-  pub frame-passed : framed_of w t ≡ verdict.Accepted → (width_fits w ≡ true) × (length_fits t ≡ true)
-  unfolding framed_of
-  frame-passed h = both-passed (width_fits w) (length_fits t) h
+  abbrev sized : Result (List Known) Refusal
+  sized = on_verdict (size_verdict t) (Ok (known_facts t)) Err
 
-  module _ (W : width_fits w ≡ true) where
-    module _ (L : length_fits t ≡ true) (r : Facts) (S : Scanned w t r) where
-      by-scan : verdict_of w t ≡ on_verdict r.verdict (size_verdict t) (λ n p. verdict.Refused n p)
-      unfolding verdict_of
-      by-scan = rw (W, L, S.first) (follows (refusal_at w t) (count t) 0 (size_verdict t))
+  by_checks : facts_of w t ≡ on_verdict (framed_of w t) (on_verdict scan sized Err) Err
+  unfolding facts_of verdict_of framed_of
+  by_checks =
+      framed (width_fits w) (length_fits t) (first_refusal (refusal_at w t) (count t) 0 (size_verdict t)) (Ok (known_facts t)) Err
+      ∙ rw (follows (refusal_at w t) (count t) 0 (size_verdict t), chained scan (size_verdict t) (known_facts t))
 
-      pub scan-refused : (n p : ℕ) → r.verdict ≡ verdict.Refused n p → bare_facts (verdict.Refused n p) ≡ facts_of w t
-      unfolding facts_of
-      scan-refused n p e = rw (by-scan, e)
+  pub frame_refused : (e : Refusal) → Err e ≡ framed_of w t → Err e ≡ facts_of w t
+  frame_refused e h = rw (by_checks, ← h)
 
-      module _ (e : r.verdict ≡ verdict.Accepted) where
-        -- The main term's entries.
-        pub main-ins : at r.ins (last_of t) ≡ ins (main_of t)
-        main-ins = rw (S.known e) (at-column ins t (last_of t) (last-below t L).0)
+  module _ (h : passed ≡ framed_of w t) where
+    -- The width, and how many terms there are.
+    pub framed_in : (w ≤ 32) × (1 ≤ count t) × (length t ≤ 1024)
+    unfolding framed_of
+    framed_in =
+        let a = went_on _ _ _ (sym h) in
+        let b = went_on _ _ _ a.1 in
+        let l = both _ _ b.0 in
+        let m = both _ _ l.1 in
+        let some : 1 ≤ length t = leb-true _ _ l.0 in
+        let four : length t % 4 ≡ 0 = eqb-true _ _ m.0 in
+        (leb-true _ _ (both (leb 1 w) (leb w 32) a.0).1, omega arith, leb-true _ _ m.1)
 
-        pub main-size : at r.sizes (last_of t) ≡ capped (size (main_of t))
-        main-size = rw (S.known e) (at-column (λ T. capped (size T)) t (last_of t) (last-below t L).0)
+    pub scan_refused : (e : Refusal) → Scanned w t (Err e) → Err e ≡ facts_of w t
+    scan_refused e S = rw (by_checks, ← h, fails scan (known_facts t) e S.first)
 
-        pub main-few : (at r.ins (last_of t) ≤ 16) × (at r.sizes (last_of t) ≤ 4097)
-        main-few =
-            let few = S.few e (last_of t) (last-below t L).0 in
-            (omega (arith, main-ins), omega (arith, main-size, min-le_right (size (main_of t)) 4097))
+    module _ (terms : List Known) (S : Scanned w t (Ok terms)) where
+      scanned : (scan ≡ passed) × (terms ≡ known_facts t)
+      scanned = answers scan (known_facts t) terms (sym S.first)
 
-        pub size-refused : 4096 < 6 + at r.ins (last_of t) + at r.sizes (last_of t) → bare_facts (verdict.Refused 9 0) ≡ facts_of w t
-        unfolding facts_of
-        size-refused h =
-            let g : 4096 < whole_size (main_of t) = omega (arith, main-ins, main-size, min-le_right (size (main_of t)) 4097) in
-            rw (by-scan, e, lt-leb (whole_size (main_of t)) 4096 g)
+      -- The main term's entry.
+      main-known : get_or terms (last_of t) nothing_known ≡ known_of (main_of t)
+      main-known =
+          let f = framed_in in
+          rw scanned.1 (facts-at t (omega arith) (last_of t) nothing_known (omega arith))
 
-        pub all-passed : 6 + at r.ins (last_of t) + at r.sizes (last_of t) ≤ 4096 → r ≡ facts_of w t
-        unfolding facts_of
-        all-passed h =
-            let g : whole_size (main_of t) ≤ 4096 = omega (arith, main-ins, main-size, min-le_right (size (main_of t)) 4097) in
-            S.known e ∙ rw (by-scan, e, le-leb (whole_size (main_of t)) 4096 g)
+      main-sized : 6 + (get_or terms (last_of t) nothing_known).ins + (get_or terms (last_of t) nothing_known).cells
+          ≡ 6 + ins (main_of t) + capped (size (main_of t))
+      main-sized = rw main-known
+
+      pub main_few : ((get_or terms (last_of t) nothing_known).ins ≤ 16) × ((get_or terms (last_of t) nothing_known).cells ≤ 4097)
+      main_few =
+          let f = framed_in in
+          rw main-known (S.few terms refl (last_of t) (omega arith), min-le_right (size (main_of t)) 4097)
+
+      pub size_refused : 4096 < 6 + (get_or terms (last_of t) nothing_known).ins + (get_or terms (last_of t) nothing_known).cells →
+          refused cause.CircuitSize 0 ≡ facts_of w t
+      size_refused g =
+          let m : 4096 < whole_size (main_of t) = omega (arith, main-sized, min-le_right (size (main_of t)) 4097) in
+          rw (by_checks, ← h, scanned.0, lt-leb (whole_size (main_of t)) 4096 m)
+
+      pub all_passed : 6 + (get_or terms (last_of t) nothing_known).ins + (get_or terms (last_of t) nothing_known).cells ≤ 4096 →
+          Ok terms ≡ facts_of w t
+      all_passed g =
+          let m : whole_size (main_of t) ≤ 4096 = omega (arith, main-sized, min-le_right (size (main_of t)) 4097) in
+          rw (by_checks, ← h, scanned.0, le-leb (whole_size (main_of t)) 4096 m, scanned.1)
+
+-- The checks in their order.
+pub ruleset in_order = (frame_refused, framed_in, scan_refused, main_few, size_refused, all_passed)

@@ -1,2 +1,2 @@
--- What the parts of the check of a table answer, and what its sizes ask. Definitions only.
+-- What the parts of the check of a table answer. Definitions only.
 pub mod Checked

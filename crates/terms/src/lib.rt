@@ -1,107 +1,148 @@
-// The checks 1 to 9 of a table, with what they find of each term; and a size by recursion.
-// A refused table has its number and place, and zeros for every term.
+// The checks 1 to 9 of a table, and a table that passed them, with what is known of each term.
 // docs/READING.md: "Term tables", "Refusal numbers".
 //
-//     check    `framed`, then `tables::scanned`, then the size of the whole circuit
-//     framed   1 and 2: the width and the length
-//     size     the cells of one term of an accepted table
+//     check      `framed`, then `tables::scanned`, then the size of the whole circuit
+//     framed     1 and 2: the width and the length
+//     Accepted   a table that passed, and what its terms are
 #![tactic(auto)]
 
-ghost use Rattle.std.specs.Prelude.{◌≡◌, ◌≤◌, ◌%◌, eqb, leb};
+ghost use Rattle.std.specs.Prelude.{◌≡◌, ◌<◌, ◌≤◌, ◌%◌, eqb, leb, Ok};
 ghost use Rattle.meaning.specs.Choices.{and};
-ghost use Rattle.meaning.specs.Terms.{tree};
-ghost use Rattle.meaning.specs.Counts.{«size»};
+ghost use Rattle.meaning.specs.Terms.{number_of, kind_of, count, last_of, tree};
+ghost use Rattle.meaning.specs.Kinds.{kind_named};
+ghost use Rattle.meaning.specs.Counts.{ins, outs, size};
+ghost use Rattle.meaning.specs.Checks.{operand_tree};
 ghost use Rattle.meaning.specs.Answers.{facts_of};
-ghost use Rattle.terms.specs.Checked.{framed_of, bare_facts, own_of, CanSize};
+ghost use Rattle.terms.specs.Checked.{framed_of};
 
-use meaning::{Facts, Verdict};
+use meaning::{Cause, Kind, Known, Refusal};
+
+// A table that passed every check at a width, with what is known of each term.
+#[derive(Clone, Copy)]
+pub struct Accepted<'a> {
+    pub width: u32,
+    pub numbers: &'a [u32],
+    pub terms: &'a [Known; 256],
+    ghost judged: { facts_of width numbers.now ≡ Ok terms.now },
+}
+
+impl Accepted<'_> {
+    // The main term: the last.
+    #[tactic(auto, using(crate::proofs::Facts::some_terms))]
+    pub fn main(&self) -> usize
+        ensures last { result ≡ last_of self.now.numbers.now }
+        ensures there { result < count self.now.numbers.now }
+    {
+        self.numbers.len() / 4 - 1
+    }
+
+    // Number j of term k.
+    pub fn number(&self, k: usize, j: usize) -> u32
+        requires { (k < count self.now.numbers.now) × (j < 4) }
+        ensures { result ≡ number_of self.now.numbers.now k j }
+    {
+        tables::number(self.numbers, k, j)
+    }
+
+    // What term k does.
+    pub fn kind(&self, k: usize) -> Kind
+        requires { k < count self.now.numbers.now }
+        ensures { result ≡ kind_named (kind_of self.now.numbers.now k) }
+    {
+        Kind::from(self.number(k, 0))
+    }
+
+    // The term that number j of term k names.
+    pub fn operand(&self, k: usize, j: usize) -> usize
+        requires { (k < count self.now.numbers.now) × (j < 4) }
+        ensures { result ≡ number_of self.now.numbers.now k j }
+    {
+        tables::operand(self.numbers, k, j)
+    }
+
+    // How many words term k takes.
+    #[tactic(auto, using(crate::proofs::Facts::few_terms, crate::proofs::Facts::takes_at))]
+    pub fn takes(&self, k: usize) -> u32
+        requires { k < count self.now.numbers.now }
+        ensures { result ≡ ins (tree self.now.numbers.now k) }
+    {
+        self.terms[k].ins
+    }
+
+    // How many words term k gives.
+    #[tactic(auto, using(crate::proofs::Facts::few_terms, crate::proofs::Facts::gives_at))]
+    pub fn gives(&self, k: usize) -> u32
+        requires { k < count self.now.numbers.now }
+        ensures { result ≡ outs (tree self.now.numbers.now k) }
+    {
+        self.terms[k].outs
+    }
+
+    // The cells of term k's own block, operand by operand.
+    #[tactic(auto, using(crate::proofs::Sizes::cells_by_kind))]
+    #[cycle(cells)]
+    pub fn cells(&self, k: usize) -> u32
+        requires { (k < count self.now.numbers.now) × (size (tree self.now.numbers.now k) ≤ 4096) }
+        ensures { result ≡ size (tree self.now.numbers.now k) }
+    {
+        match self.kind(k) {
+            Kind::Seq => self.part(k, 1) + self.part(k, 2) + 4,
+            Kind::Par => self.part(k, 1) + self.part(k, 2) + 1,
+            Kind::Ite => {
+                let parts = self.part(k, 1) + self.part(k, 2) + self.part(k, 3);
+                2 * self.takes(k) + parts + 9 + self.gives(k)
+            }
+            Kind::Rec => {
+                let parts = self.part(k, 1) + self.part(k, 2) + self.part(k, 3);
+                4 * self.takes(k) + parts + 16
+            }
+            _ => 4,
+        }
+    }
+
+    // The cells of the term that number j of term k names, a lower one.
+    #[cycle(cells)]
+    fn part(&self, k: usize, j: usize) -> u32
+        requires there { (k < count self.now.numbers.now) × (j < 4) }
+        requires lower { number_of self.now.numbers.now k j < k }
+        requires few { size (operand_tree self.now.numbers.now k j) ≤ 4096 }
+        ensures { result ≡ size (operand_tree self.now.numbers.now k j) }
+    {
+        self.cells(self.operand(k, j))
+    }
+}
 
 // 2: a length is that of 1 to 256 terms.
 fn length_fits(len: usize) -> bool
     ensures { result ≡ and (leb 1 len) (and (eqb (len % 4) 0) (leb len 1024)) }
 {
-    1 <= len && (len % 4 == 0 && len <= 1024)
+    1 <= len && len % 4 == 0 && len <= 1024
 }
 
 // 1 and 2: the width and the length are those of a table.
 #[tactic(auto, unfolding(crate::specs::Checked::framed_of))]
-fn framed(width: u32, table: &[u32]) -> Verdict
+fn framed(width: u32, table: &[u32]) -> Result<(), Refusal>
     ensures { result ≡ framed_of width table.now }
 {
     if !words::width_fits(width) {
-        return Verdict::Refused(1, 0);
+        return Err(Cause::Width.into());
     }
     if !length_fits(table.len()) {
-        return Verdict::Refused(2, 0);
+        return Err(Cause::TableLength.into());
     }
-    Verdict::Accepted
-}
-
-// A verdict with zeros for every term.
-fn bare(verdict: Verdict) -> Facts
-    ensures { result ≡ bare_facts verdict }
-{
-    Facts {
-        verdict: verdict,
-        ins: [0u32; 256],
-        outs: [0u32; 256],
-        sizes: [0u32; 256],
-    }
+    Ok(())
 }
 
 // 1 to 9, and what is known of each term.
-pub fn check(width: u32, table: &[u32]) -> Facts
+#[tactic(auto, using(crate::proofs::Whole::in_order))]
+pub fn check(width: u32, table: &[u32]) -> Result<[Known; 256], Refusal>
     ensures { result ≡ facts_of width table.now }
 {
-    let frame = framed(width, table);
-    let Verdict::Accepted = frame else {
-        return bare(frame);
-    };
-    let facts = tables::scanned(width, table);
-    let verdict = facts.verdict;
-    let Verdict::Accepted = verdict else {
-        return bare(verdict);
-    };
-    let last = table.len() / 4 - 1;
-    if 4096 < 6 + facts.ins[last] + facts.sizes[last] {
-        return bare(Verdict::Refused(9, 0));
+    framed(width, table)?;
+    let terms = tables::scanned(width, table)?;
+    let main = terms[table.len() / 4 - 1];
+    if 6 + main.ins + main.cells > 4096 {
+        return Err(Cause::CircuitSize.into());
     }
-    facts
-}
-
-// The cells that a combinator adds to those of its operands, of which the first takes `taken`
-// words and the second gives `given`.
-#[tactic(auto, unfolding(crate::specs::Checked::own_of))]
-fn own(kind: u32, taken: u32, given: u32) -> u32
-    requires { (taken ≤ 16) × (given ≤ 16) }
-    ensures { result ≡ own_of kind taken given }
-{
-    match kind {
-        1 => 4,
-        2 => 1,
-        3 => 2 * taken + 9 + given,
-        _ => 4 * taken + 16,
-    }
-}
-
-// The cells of term k's own block, operand by operand, in a table that passed every check.
-pub fn size(table: &[u32], ins: &[u32; 256], outs: &[u32; 256], k: usize) -> u32
-    requires { CanSize table.now ins.now outs.now k }
-    ensures { result ≡ «size» (tree table.now k) }
-{
-    let kind = tables::number(table, k, 0);
-    let uses = kinds::operands(kind);
-    if uses == 0 {
-        return 4;
-    }
-    let first = tables::operand(table, k, 1);
-    let second = tables::operand(table, k, 2);
-    let mut cells = own(kind, ins[first], outs[second]);
-    let mut j: usize = 0;
-    while j < uses {
-        let next = tables::operand(table, k, j + 1);
-        cells = cells + size(table, ins, outs, next);
-        j = j + 1;
-    }
-    cells
+    Ok(terms)
 }

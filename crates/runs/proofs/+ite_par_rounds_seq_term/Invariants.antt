@@ -20,8 +20,8 @@ decreases-ite l = l.k + l.k
 abbrev pub decreases-rounds : goal.decreases-rounds
 decreases-rounds l = l.k + l.k
 
-abbrev pub invariant-rounds-loop-c : goal.invariant-rounds-loop-c
-invariant-rounds-loop-c l = Going l.width (tree l.table l.k) l.start l.limit l.initial.words l.at l.words
+abbrev pub invariant-rounds-loop-tested : goal.invariant-rounds-loop-tested
+invariant-rounds-loop-tested l = Going l.table.width (tree l.table.numbers.now l.k) l.start l.limit l.initial.words l.at l.words
 
-abbrev pub decreases-rounds-loop-c : goal.decreases-rounds-loop-c
-decreases-rounds-loop-c l = l.limit - l.at
+abbrev pub decreases-rounds-loop-tested : goal.decreases-rounds-loop-tested
+decreases-rounds-loop-tested l = l.limit - l.at

@@ -1,11 +1,8 @@
--- Invariant: the row holds the first j wires. Measure: what is left of n. Mathematics in `proofs.Turns`.
-use Rattle.std.proofs.Common.{◌≡◌, ◌-◌, ◌≤◌}
+-- Invariant: the row holds the first j wires. Mathematics in `proofs.Turns`.
+use Rattle.std.proofs.Common.{◌≡◌}
 use Rattle.meaning.specs.Choices.{padded}
 use Rattle.circuit.specs.Pieces.{wires_from}
 use Rattle.pieces.proofs.rows.wires.Given as goal
 
 abbrev pub invariant-loop-j : goal.invariant-loop-j
-invariant-loop-j l = (l.j ≤ l.n) × (l.row ≡ padded 16 (wires_from l.at l.j))
-
-abbrev pub decreases-loop-j : goal.decreases-loop-j
-decreases-loop-j l = l.n - l.j
+invariant-loop-j l = l.row ≡ padded 16 (wires_from l.at l.j)
