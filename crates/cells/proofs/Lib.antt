@@ -1,9 +1,5 @@
--- Laws of the cell checks, for this crate and for what reads a checked netlist.
+-- Laws of the cell checks, for this crate, and of scans and chains over places, for the crates above too.
 pub mod Scan
 pub mod Checks
-pub mod Ports
-pub mod Gates
-pub mod Passed
-pub mod Wires
 pub mod Places
 pub mod Unique

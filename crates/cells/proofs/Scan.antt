@@ -11,11 +11,11 @@ use Rattle.meaning.specs.Checks.{first_refusal}
 
 -- One place more, by what its check answers.
 module _ (check : ℕ → Check) (m k : ℕ) (follows : Verdict) where
-  pub passes : check k ≡ passed → first_refusal check (suc m) k follows ≡ first_refusal check m (suc k) follows
+  passes : check k ≡ passed → first_refusal check (suc m) k follows ≡ first_refusal check m (suc k) follows
   unfolding first_refusal
   passes e = rw e
 
-  pub stops : (c : Cause) → check k ≡ Err c → first_refusal check (suc m) k follows ≡ refused c k
+  stops : (c : Cause) → check k ≡ Err c → first_refusal check (suc m) k follows ≡ refused c k
   unfolding first_refusal
   stops c e = rw e
 

@@ -12,7 +12,7 @@ ghost use Rattle.circuit.specs.Netlists.{
 };
 ghost use Rattle.cells.specs.Numbers.{EachPort};
 
-use crate::kinds;
+use crate::{count, kind, kinds, number};
 use circuit::Port;
 use meaning::Cause;
 
@@ -40,15 +40,15 @@ fn wire_fits(n: usize, cells: usize, port: Port, v: u32) -> bool
     }
 }
 
-// 16: the wire of cell n, which is there, is no word where a bit is due and no bit where a word is
-// due.
-fn sort_fits(netlist: &[u32], n: usize, port: Port, v: u32) -> bool
-    requires { (n < cell_count netlist.now) × (wire_fits n (cell_count netlist.now) port v ≡ true) }
+// 16: the wire, which is there, is no word where a bit is due and no bit where a word is due.
+fn sort_fits(netlist: &[u32], port: Port, v: u32) -> bool
+    requires { (n : ℕ) × (n < cell_count netlist.now)
+        × (wire_fits n (cell_count netlist.now) port v ≡ true) }
     ensures { result ≡ sort_fits netlist.now port v }
 {
     match port {
-        Port::Bit | Port::LaterBit => !kinds::drives_word(crate::kind(netlist, v as usize)),
-        Port::Word | Port::LaterWord => !kinds::drives_bit(crate::kind(netlist, v as usize)),
+        Port::Bit | Port::LaterBit => !kinds::drives_word(kind(netlist, v as usize)),
+        Port::Word | Port::LaterWord => !kinds::drives_bit(kind(netlist, v as usize)),
         _ => true,
     }
 }
@@ -61,10 +61,10 @@ fn all_ports<F: Fn(Port, u32) -> bool>(netlist: &[u32], n: usize, test: F) -> bo
     requires answers { (p : Port) (v : ℕ) (r : Bool) → F.post test p v r → r ≡ of p v }
     ensures { result ≡ all_ports of netlist.now n }
 {
-    let ports = kinds::ports_of(crate::kind(netlist, n));
-    test(ports.x, crate::number(netlist, n, 1))
-        && test(ports.y, crate::number(netlist, n, 2))
-        && test(ports.z, crate::number(netlist, n, 3))
+    let ports = kinds::ports_of(kind(netlist, n));
+    test(ports.x, number(netlist, n, 1))
+        && test(ports.y, number(netlist, n, 2))
+        && test(ports.z, number(netlist, n, 3))
 }
 
 // The first refusal of 13 to 16 that cell n gives.
@@ -73,17 +73,17 @@ pub fn refusal(width: u32, netlist: &[u32], n: usize) -> Result<(), Cause>
     requires { (width ≤ 32) × (n < cell_count netlist.now) }
     ensures { result ≡ cell_refusal width netlist.now n }
 {
-    if !kinds::known(crate::kind(netlist, n)) {
+    if !kinds::known(kind(netlist, n)) {
         return Err(Cause::CellKind);
     }
     if !all_ports(netlist, n, |port, v| number_fits(width, port, v)) {
         return Err(Cause::CellNumber);
     }
-    let cells = crate::count(netlist);
+    let cells = count(netlist);
     if !all_ports(netlist, n, |port, v| wire_fits(n, cells, port, v)) {
         return Err(Cause::CellWire);
     }
-    if !all_ports(netlist, n, |port, v| sort_fits(netlist, n, port, v)) {
+    if !all_ports(netlist, n, |port, v| sort_fits(netlist, port, v)) {
         return Err(Cause::WireSort);
     }
     Ok(())

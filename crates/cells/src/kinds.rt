@@ -14,6 +14,15 @@ pub struct Ports {
     pub z: Port,
 }
 
+impl Ports {
+    // Three numbers, each as what it is.
+    fn new(x: Port, y: Port, z: Port) -> Ports
+        ensures { (result.x ≡ x) × (result.y ≡ y) × (result.z ≡ z) }
+    {
+        Ports { x, y, z }
+    }
+}
+
 // Whether cells of a kind drive bits.
 pub fn drives_bit(kind: u32) -> bool
     ensures { result ≡ bit_kind kind }
@@ -35,17 +44,8 @@ pub fn known(kind: u32) -> bool
     drives_bit(kind) || drives_word(kind)
 }
 
-impl Ports {
-    // Three numbers, each as what it is.
-    fn new(x: Port, y: Port, z: Port) -> Ports
-        ensures { (result.x ≡ x) × (result.y ≡ y) × (result.z ≡ z) }
-    {
-        Ports { x, y, z }
-    }
-}
-
 // The ports of a kind.
-#[tactic(auto, using(crate::proofs::Gates::ports_by_gate))]
+#[tactic(auto, unfolding(circuit::specs::Cells::ports_of))]
 pub fn ports_of(kind: u32) -> Ports
     ensures { (result.x ≡ (ports_of kind).x) × (result.y ≡ (ports_of kind).y)
         × (result.z ≡ (ports_of kind).z) }

@@ -74,7 +74,6 @@ pub fn check(width: u32, netlist: &[u32]) -> Result<(), Refusal>
 }
 
 // Whether every input cell names one of the first m words.
-#[tactic(auto, unfolding(circuit::specs::Simulated::inputs_given))]
 pub fn names_given(netlist: &[u32], m: usize) -> bool
     ensures { result ≡ inputs_given netlist.now m (cell_count netlist.now) }
 {
