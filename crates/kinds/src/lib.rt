@@ -9,7 +9,6 @@ ghost use Rattle.meaning.specs.Checks.{
   operands_of,
   used_of,
   unused_zero,
-  few_words,
   values_fit,
 };
 ghost use Rattle.kinds.specs.Early.{alone, early_of};
@@ -56,21 +55,14 @@ fn unused_zero(kind: u32, a: u32, b: u32, c: u32) -> bool
     [a, b, c].iter().skip(used(kind)).all(|x| *x == 0)
 }
 
-// m is 1 to 16.
-fn few_words(m: u32) -> bool
-    ensures { result ≡ few_words m }
-{
-    (1..=16).contains(&m)
-}
-
 // 5: m is 1 to 16; a Const's v is a word, a Field's k is below m.
 fn values_fit(width: Width, kind: u32, m: u32, v: u32) -> bool
     requires { known_kind kind ≡ true }
     ensures { result ≡ values_fit width.bits (alone kind m v 0) 0 }
 {
     match Kind::from(kind) {
-        Kind::Const => few_words(m) && width.fits(v),
-        Kind::Field => few_words(m) && v < m,
+        Kind::Const => words::few_words(m) && width.fits(v),
+        Kind::Field => words::few_words(m) && v < m,
         _ => true,
     }
 }

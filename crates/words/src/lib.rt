@@ -14,7 +14,7 @@ ghost use Rattle.meaning.specs.Words.{
   shift_left,
   operation,
 };
-ghost use Rattle.meaning.specs.Checks.{width_fits};
+ghost use Rattle.meaning.specs.Checks.{width_fits, few_words};
 ghost use Rattle.words.specs.Operations.{operation_named};
 
 use meaning::Cause;
@@ -59,6 +59,13 @@ pub fn width_fits(width: u32) -> bool
     ensures { result ≡ width_fits width }
 {
     (1..=32).contains(&width)
+}
+
+// Whether there are 1 to 16 words, as many as a term takes or gives.
+pub fn few_words(n: u32) -> bool
+    ensures { result ≡ few_words n }
+{
+    (1..=16).contains(&n)
 }
 
 // How many bits words have.
