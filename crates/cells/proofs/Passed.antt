@@ -1,6 +1,6 @@
--- Law: what 13 to 16 tested of each cell of an accepted netlist, test by test. What they come to, row by row, is circuit's `Checked`.
--- The simulator and the writers cite it. Assumes nothing.
-use Prim.Native.Nat.{ℕ, ◌<◌}
+-- Laws: the width of an accepted netlist has at most 32 bits, and what 13 to 16 tested of each of its cells, test by test. What they come
+-- to, row by row, is circuit's `Checked`. The simulator and the writers cite them. Assumes nothing.
+use Prim.Native.Nat.{ℕ, ◌≤◌, ◌<◌}
 use mathlib.Core.Path.{◌≡◌}
 use mathlib.Core.Bool.{true}
 use mathlib.Core.List.{List}
@@ -11,6 +11,9 @@ use Rattle.circuit.specs.Netlists.{number_fits, wire_fits, sort_fits, all_ports,
 use Rattle.meaning.proofs.Verdicts.{went_on}
 use Rattle.circuit.proofs.Refusals.{refused_none}
 use Rattle.circuit.proofs.Checked.{checked}
+
+pub narrow : (w : ℕ) (net : List ℕ) → netlist_verdict w net ≡ accepted → w ≤ 32
+narrow w net e = (checked w net e).wide.1
 
 pub record Passed (w : ℕ) (net : List ℕ) (n : ℕ) : Type 0 where
   pub known : or (bit_kind (kind_at net n)) (word_kind (kind_at net n)) ≡ true
