@@ -80,7 +80,7 @@ impl Design<'_> {
         requires short { (kind : ℕ) (t : _) → F.post template kind t → length t.now ≤ 64 }
         ensures wrote { (line : ByKind) → ((kind : ℕ) (t : _) → F.post template kind t → t.now ≡ line kind)
             → Wrote text.old at (cell_texts line self.now.width self.now.netlist.now)
-                result text.new }
+            result text.new }
         ensures upper_bound { result ≤ at + 2621440 }
     {
         let mut next = at;
