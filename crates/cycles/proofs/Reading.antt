@@ -1,4 +1,5 @@
--- Law: what a cell that passed its checks reads is there. `Cycle::gate` cites it. Assumes nothing.
+-- Laws: an accepted netlist has words of at most 32 bits, and what a cell that passed its checks reads is there. `Cycle::gate`, what makes
+-- a `Cycle` and the simulator cite them. Assumes nothing.
 use Prim.Native.Nat.{ℕ, ◌≤◌, ◌<◌}
 use mathlib.Core.Path.{◌≡◌, refl, ◌∙◌}
 use mathlib.Core.Bool.{true}
@@ -35,6 +36,9 @@ use Rattle.circuit.proofs.Passes.{
 }
 use Rattle.cycles.specs.Reads.{Reads}
 use Rattle.cycles.proofs.Inputs.{given-at}
+
+pub narrow : (w : ℕ) (net : List ℕ) → netlist_verdict w net ≡ passed → w ≤ 32
+narrow w net ok = (checked w net ok).wide.1
 
 -- The kinds from 13 on are operations.
 operation-named : (k : ℕ) → 13 ≤ k → gate_named k ≡ pick (ltb k 20) gate.Binary gate.Unary

@@ -116,7 +116,7 @@ impl Cycle<'_> {
 }
 
 // All wires of cycle 0.
-#[tactic(auto, using(cells::proofs::Passed::narrow))]
+#[tactic(auto, using(crate::proofs::Reading::narrow))]
 pub fn first<'a>(width: u32, netlist: &'a [u32], load: bool, words: &'a [u32], wires: &mut [u32])
     requires { Ready width netlist.now (length words.now) (length wires.old) }
     ensures { wires.new ≡ power_up width (λ n. 0) netlist.now load
@@ -133,7 +133,7 @@ pub fn first<'a>(width: u32, netlist: &'a [u32], load: bool, words: &'a [u32], w
 }
 
 // All wires of a cycle from those of the cycle before.
-#[tactic(auto, using(cells::proofs::Passed::narrow))]
+#[tactic(auto, using(crate::proofs::Reading::narrow))]
 pub fn next<'a>(
     width: u32,
     netlist: &'a [u32],

@@ -56,7 +56,7 @@ fn wires_fit(width: Width, netlist: &[u32], wires: &[u32]) -> Result<(), Refusal
 }
 
 // At power-up: 1, 12 to 16, 17 and 11.
-#[tactic(auto, using(cells::proofs::Passed::narrow, crate::proofs::Judging::power_up_in_order))]
+#[tactic(auto, using(cycles::proofs::Reading::narrow, crate::proofs::Judging::power_up_in_order))]
 pub fn power_up(width: u32, netlist: &[u32], words: &[u32], room: usize) -> Result<(), Refusal>
     ensures { result ≡ power_up_verdict width netlist.now words.now room }
 {
@@ -70,7 +70,7 @@ pub fn power_up(width: u32, netlist: &[u32], words: &[u32], room: usize) -> Resu
 
 // At a step: 1, 12 to 16, 17 of both buffers, 18 and 11. One look a cell tells whether there is a
 // refusal to be named.
-#[tactic(auto, using(cells::proofs::Passed::narrow, crate::proofs::Judging::step_in_order))]
+#[tactic(auto, using(cycles::proofs::Reading::narrow, crate::proofs::Judging::step_in_order))]
 pub fn step(
     width: u32,
     netlist: &[u32],
