@@ -1,5 +1,4 @@
--- Laws of a cycle's wires: numbers as bits, which words input cells name, what cells read, and how a pass fills a buffer.
-pub mod Bits
+-- Laws of a cycle's wires: which words input cells name, what cells read, and how a pass fills a buffer.
 pub mod Inputs
 pub mod Reading
 pub mod Passing

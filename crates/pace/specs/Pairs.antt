@@ -2,7 +2,7 @@
 -- docs/READING.md: "The simulator". Read after: circuit's `Clock`, `Simulated`. Assumes nothing.
 use Rattle.std.specs.Prelude.{ℕ, zero, suc, Bool, List, length}
 use Rattle.meaning.specs.Words.{Words}
-use Rattle.meaning.specs.Answers.{on_verdict}
+use Rattle.meaning.specs.Refusals.{on_verdict}
 use Rattle.circuit.specs.Clock.{step}
 use Rattle.circuit.specs.Simulated.{step_verdict}
 
@@ -19,7 +19,7 @@ module _ (w : ℕ) (net : List ℕ) (load : Bool) (words : Words) (even : List �
 
   -- Both buffers after a call that is judged as a step: as they were where it is refused.
   unfoldable pub even_after : List ℕ → ℕ → List ℕ
-  even_after odd n = on_verdict (step_verdict w net even words (length odd)) (evens n) (λ r p. even)
+  even_after odd n = on_verdict (step_verdict w net even words (length odd)) (evens n) (λ r. even)
 
   unfoldable pub odd_after : List ℕ → ℕ → List ℕ
-  odd_after odd n = on_verdict (step_verdict w net even words (length odd)) (odds odd n) (λ r p. odd)
+  odd_after odd n = on_verdict (step_verdict w net even words (length odd)) (odds odd n) (λ r. odd)

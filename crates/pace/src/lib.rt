@@ -11,9 +11,8 @@ ghost use Rattle.circuit.specs.Simulated.{step_verdict};
 ghost use Rattle.cycles.specs.Ready.{Ready};
 ghost use Rattle.pace.specs.Pairs.{evens, odds, even_after, odd_after};
 
-use meaning::Verdict;
-
 // A step from `even` into `odd` and one back, `pairs` times.
+#[tactic(auto, unfolding(crate::specs::Pairs::evens, crate::specs::Pairs::odds))]
 fn alternate(
     width: u32,
     netlist: &[u32],
@@ -30,16 +29,15 @@ fn alternate(
     ensures odd_after { odd.new ≡ odds width netlist.now load
         words.now even.old odd.old pairs }
 {
-    let mut taken: u32 = 0;
-    while taken < pairs {
+    for _ in 0..pairs {
         cycles::next(width, netlist, even, load, words, odd);
         cycles::next(width, netlist, odd, load, words, even);
-        taken = taken + 1;
     }
 }
 
 // Judges once, with `even` as the wires of the cycle before and `odd` as the room for the next,
 // and then steps `pairs` times from `even` into `odd` and back. Answers: refusal number, place.
+#[tactic(auto, unfolding(crate::specs::Pairs::even_after, crate::specs::Pairs::odd_after))]
 pub fn rumiotka_pace(
     width: u32,
     netlist: &[u32],
@@ -57,14 +55,11 @@ pub fn rumiotka_pace(
     ensures odd_after { odd.new ≡ odd_after width netlist.now (bit load)
         words.now even.old odd.old pairs }
 {
-    let verdict = simulator::verdicts::step(width, netlist, even, words, odd.len());
-    match verdict {
-        Verdict::Accepted => {
+    match simulator::verdicts::step(width, netlist, even, words, odd.len()) {
+        Ok(()) => {
             alternate(width, netlist, even, odd, load != 0, words, pairs);
             *answer = [0, 0];
         }
-        Verdict::Refused(n, p) => {
-            *answer = [n, p];
-        }
+        Err(refusal) => *answer = [refusal.cause.number(), refusal.place],
     }
 }

@@ -1,11 +1,9 @@
--- Invariant: the buffers hold what `taken` pairs leave (`proofs.Taking`). Measure: the pairs left.
-use Rattle.std.proofs.Common.{◌-◌}
-use Rattle.pace.proofs.Taking.{Taking}
+-- Invariant: the buffers hold what the pairs so far leave.
+use Rattle.std.proofs.Common.{◌≡◌}
+use Rattle.pace.specs.Pairs.{evens, odds}
 use Rattle.pace.proofs.alternate.Given as goal
 
-abbrev pub invariant-loop-taken : goal.invariant-loop-taken
-invariant-loop-taken l =
-    Taking l.width l.netlist l.load l.words l.initial.even l.initial.odd l.pairs l.taken l.even l.odd
-
-abbrev pub decreases-loop-taken : goal.decreases-loop-taken
-decreases-loop-taken l = l.pairs - l.taken
+abbrev pub invariant-loop : goal.invariant-loop
+invariant-loop l =
+    (l.even ≡ evens l.width l.netlist l.load l.words l.initial.even l.counter)
+    × (l.odd ≡ odds l.width l.netlist l.load l.words l.initial.even l.initial.odd l.counter)
