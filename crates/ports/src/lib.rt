@@ -3,7 +3,6 @@
 
 ghost use Rattle.std.specs.Prelude.{◌≡◌, Bool, Some, None, ltb, eqb};
 ghost use Rattle.meaning.specs.Choices.{pick};
-ghost use Rattle.meaning.specs.Checks.{few_words};
 ghost use Rattle.circuit.specs.Cells.{kind_at, cell_count, word_kind};
 ghost use Rattle.ports.specs.Interface.{outputs_fit, ports_fit};
 
@@ -30,20 +29,14 @@ fn outputs_fit(netlist: &[u32], o: u32, outs: &[u32; 16]) -> bool
     })
 }
 
-// Whether a count of words is 1 to 16.
-fn few_words(n: u32) -> bool
-    ensures { result ≡ few_words n }
-{
-    (1..=16).contains(&n)
-}
-
-// Whether all ports fit.
+// Whether all ports fit: i and o are 1 to 16, every input cell names one of the i words, done is a
+// bit, and the outputs fit.
 #[tactic(auto, unfolding(crate::specs::Interface::ports_fit))]
 pub fn fit(netlist: &[u32], i: u32, o: u32, done: u32, outs: &[u32; 16]) -> bool
     ensures { result ≡ ports_fit netlist.now i o done outs.now }
 {
-    few_words(i)
-        && few_words(o)
+    (1..=16).contains(&i)
+        && (1..=16).contains(&o)
         && cells::names_given(netlist, i as usize)
         && driver(netlist, done).is_some_and(kinds::drives_bit)
         && outputs_fit(netlist, o, outs)
