@@ -1,6 +1,6 @@
 // The refusals 13 to 16 of one cell: its kind, and three tests of a number by its port, each asked
 // of x, y and z. docs/READING.md: "Refusal numbers".
-ghost use Rattle.std.specs.Prelude.{◌≡◌, ℕ, Bool, true, ◌≤◌, ◌<◌};
+ghost use Rattle.std.specs.Prelude.{◌≡◌, ℕ, Bool, true, ◌<◌};
 ghost use Rattle.circuit.specs.declared.Port.{Port};
 ghost use Rattle.circuit.specs.Cells.{cell_count};
 ghost use Rattle.circuit.specs.Netlists.{
@@ -15,16 +15,16 @@ ghost use Rattle.cells.specs.Numbers.{EachPort};
 use crate::{count, kind, kinds, number};
 use circuit::Port;
 use meaning::Cause;
+use words::Width;
 
 // 14: the number is in the range of its port.
-fn number_fits(width: u32, port: Port, v: u32) -> bool
-    requires { width ≤ 32 }
-    ensures { result ≡ number_fits width port v }
+fn number_fits(width: Width, port: Port, v: u32) -> bool
+    ensures { result ≡ number_fits width.bits port v }
 {
     match port {
         Port::Unused => v == 0,
         Port::Input => v <= 15,
-        Port::Constant => words::fits(width, v),
+        Port::Constant => width.fits(v),
         _ => true,
     }
 }
@@ -69,9 +69,9 @@ fn all_ports<F: Fn(Port, u32) -> bool>(netlist: &[u32], n: usize, test: F) -> bo
 
 // The first refusal of 13 to 16 that cell n gives.
 #[tactic(auto, unfolding(circuit::specs::Netlists::cell_refusal))]
-pub fn refusal(width: u32, netlist: &[u32], n: usize) -> Result<(), Cause>
-    requires { (width ≤ 32) × (n < cell_count netlist.now) }
-    ensures { result ≡ cell_refusal width netlist.now n }
+pub fn refusal(width: Width, netlist: &[u32], n: usize) -> Result<(), Cause>
+    requires { n < cell_count netlist.now }
+    ensures { result ≡ cell_refusal width.bits netlist.now n }
 {
     if !kinds::known(kind(netlist, n)) {
         return Err(Cause::CellKind);

@@ -17,6 +17,7 @@ ghost use Rattle.circuit.specs.Simulated.{inputs_given};
 
 use circuit::Gate;
 use meaning::{Cause, Refusal};
+use words::Width;
 
 // How many numbers a cell has, and how many cells a netlist at most.
 const STRIDE: usize = 4;
@@ -59,9 +60,7 @@ pub fn netlist_fits(netlist: &[u32]) -> bool
 pub fn check(width: u32, netlist: &[u32]) -> Result<(), Refusal>
     ensures { result ≡ netlist_verdict width netlist.now }
 {
-    if !words::width_fits(width) {
-        return Err(Cause::Width.into());
-    }
+    let width = Width::try_from(width)?;
     if !netlist_fits(netlist) {
         return Err(Cause::NetlistLength.into());
     }

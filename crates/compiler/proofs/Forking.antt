@@ -1,10 +1,11 @@
 -- Law: a test with its branches, and Ite, from what their calls left. `blocks::fork`, `blocks::ite` and `blocks::rec` cite this.
 -- Assumes nothing.
-use Prim.Native.Nat.{ℕ, ◌+◌, ◌*◌}
+use Prim.Native.Nat.{ℕ, ◌+◌, ◌*◌, ◌≤◌}
 use mathlib.Core.Path.{◌≡◌, refl, sym, ap, ◌∙◌}
 use mathlib.Core.List.{List, ◌∷◌, ◌++◌, append_assoc}
 use native.Mathlib.Omega.{arith}
 use lib.ListN.{length, take, length-append}
+use lib.Seq.{length-take-le}
 use Rattle.meaning.specs.Choices.{padded, at}
 use Rattle.meaning.specs.Terms.{Term, ite}
 use Rattle.meaning.specs.Counts.{ins, outs, size}
@@ -133,9 +134,9 @@ module _ {w : ℕ} {e f g : Term} (h : Well w (ite e f g)) (p s : ℕ) (words l 
     {r : declared.Forked} {a : Made} {i o : ℕ} (long : length words ≡ 16) (i-is : i ≡ ins e) (o_is : o ≡ outs f)
     (K1 : kw ≡ padded 16 (kept p (take i words))) (K2 : v1 ≡ written l p (keeps p s (take i words)))
     (B : Forks (fork_of (emit e) (emit f) (emit g) (p + 2 * i) s (take (ins e) words) (take (ins e) kw)) (p + 2 * i)
-    (size e + 7 + size f + size g) v1 v2 ends feeds r) (A : a ≡ record { next = r.next + 2 + o; done = r.next + 1 })
-    (C1 : row ≡ padded 16 (wires_from (r.next + 2) o))
-    (C2 : v3 ≡ written v2 r.next (merge_cells r (take o ends) (take o feeds))) where
+    (size e + 7 + size f + size g) v1 v2 ends feeds r) (A : a ≡ record { next = r.next + 2 + length (take o feeds); done = r.next + 1 })
+    (C1 : row ≡ padded 16 (wires_from (r.next + 2) (length (take o feeds))))
+    (C2 : v3 ≡ written v2 r.next (merge_cells r (take (length (take o feeds)) ends) (take o feeds))) where
   abbrev xs : List ℕ
   xs = take (ins e) words
 
@@ -166,9 +167,16 @@ module _ {w : ℕ} {e f g : Term} (h : Well w (ite e f g)) (p s : ℕ) (words l 
   no-long : length I.no.outs ≡ o
   no-long = no-outs (ite-branches h) first s xs (kept p xs) ks-long ∙ sym (o_is ∙ ite-joins h)
 
+  few : o ≤ 16
+  few = omega (arith, o_is, few_outs (ite-branches h).yes)
+
+  taken : length (take o feeds) ≡ o
+  taken = length-take-le o feeds (omega (arith, B.sixteen, few))
+
   last-is : v3 ≡ written v2 I.next (ite_last (emit e) (emit f) (emit g) p s xs)
   last-is =
       C2 ∙ rw (
+        taken,
         ap (take o) forked.yes ∙ padded-first 16 o I.yes.outs yes-long,
         ap (take o) forked.no ∙ padded-first 16 o I.no.outs no-long,
         forked.next,
@@ -181,9 +189,9 @@ module _ {w : ℕ} {e f g : Term} (h : Well w (ite e f g)) (p s : ℕ) (words l 
 
   pub ite-emits : Emits (ite e f g) p s words l v3 row a
   ite-emits = record {
-    next = omega (arith, ap (λ (m : Made). m.next) A, forked.past, keeps-length xs p s, xs-long, o_is);
+    next = omega (arith, ap (λ (m : Made). m.next) A, taken, forked.past, keeps-length xs p s, xs-long, o_is);
     done = ap (λ (m : Made). m.done) A ∙ plus-after 1 r.next ∙ ap (λ (m : ℕ). 1 after m) forked.next;
-    outs = C1 ∙ rw (forked.next, plus-after 2 I.next, ← yes-long) refl;
-    sixteen = ap length C1 ∙ wires-sixteen (r.next + 2) o (omega (arith, o_is, few_outs (ite-branches h).yes));
+    outs = C1 ∙ rw (taken, forked.next, plus-after 2 I.next, ← yes-long) refl;
+    sixteen = ap length C1 ∙ wires-sixteen (r.next + 2) (length (take o feeds)) (omega (arith, taken, few));
     net = ite-cells (emit e) (emit f) (emit g) p s xs l v1 v2 v3 (K2 ∙ rw i-is refl) forked.net last-is;
   }

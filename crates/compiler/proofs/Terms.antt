@@ -4,6 +4,7 @@ use Prim.Native.Nat.{ℕ, ◌+◌, ◌*◌, ◌≤◌, ◌<◌}
 use mathlib.Core.Path.{◌≡◌, refl, sym, ap, ◌∙◌}
 use mathlib.Core.List.{List}
 use native.Mathlib.Omega.{arith}
+use lib.Seq.{length-take-le}
 use Rattle.meaning.specs.declared.Kind.{Kind}
 use Rattle.meaning.specs.declared.Kind.TheVariants as kind
 use Rattle.meaning.specs.Kinds.{kind_named}
@@ -120,4 +121,4 @@ module _ (table : Accepted) where
       (ins (tree t k) ≤ 16) × (whole_size (tree t k) ≤ 4096) × (whole_size (main_of t) ≡ whole_size (tree t k))
   main-few k e = let s = judged.some in rw e ((ins-few w t judged (last_of t) (omega arith)).1, judged.small, refl)
 
-  pub ruleset parts = (seq-parts, par-parts, ite-parts, rec-parts, leaf-parts, main-few)
+  pub ruleset parts = (seq-parts, par-parts, ite-parts, rec-parts, leaf-parts, main-few, length-take-le)

@@ -69,7 +69,7 @@ fn par(
     let second = emit(table, g, netlist, first.next, start, &mut others);
     let q = second.next;
     place(netlist, q, Cell::And(first.done, second.done));
-    join(words, table.gives(f), &others, table.gives(g));
+    join(words, table.gives(f), &others[..table.gives(g) as usize]);
     Made {
         next: q + 1,
         done: q,
@@ -127,9 +127,9 @@ fn ite(
 {
     let n = table.takes(k);
     let mut others = [0u32; 16];
-    keep(netlist, at, start, words, n, &mut others);
+    keep(netlist, at, start, &words[..n as usize], &mut others);
     let both = fork(table, k, netlist, at + 2 * n, start, words, &mut others);
-    merge(netlist, both, words, &others, table.gives(k))
+    merge(netlist, both, words, &others[..table.gives(k) as usize])
 }
 
 // Rec: a round's start and its words, kept; the test and its branches on these; the ending, and
@@ -152,7 +152,7 @@ fn rec(
     round(netlist, at, start, words, &mut others, n);
     let first = at + 2 + 4 * n;
     let both = fork(table, k, netlist, first, at + 1 + n, words, &mut others);
-    feed(netlist, at, both, &others, n)
+    feed(netlist, at, both, &others[..n as usize])
 }
 
 // The block of term k.

@@ -15,17 +15,18 @@ ghost use Rattle.cycles.specs.Ready.{Ready, Past, register_shows, held_by};
 ghost use Rattle.cycles.specs.Reads.{Reads, Lower, lower_wire};
 
 use circuit::Gate;
+use words::Width;
 
 // What a cycle's wires depend on: a checked netlist and its width, load, the input words, and the
 // wires of the cycle before, where there is one.
 #[derive(Clone, Copy)]
 struct Cycle<'a> {
-    width: u32,
+    width: Width,
     netlist: &'a [u32],
     before: Option<&'a [u32]>,
     load: bool,
     words: &'a [u32],
-    ghost checked: { netlist_verdict width netlist.now ≡ passed },
+    ghost checked: { netlist_verdict width.bits netlist.now ≡ passed },
     ghost named: { inputs_given netlist.now (length words.now) (cell_count netlist.now) ≡ true },
     ghost past: { Past before netlist.now },
 }
@@ -73,7 +74,7 @@ impl Cycle<'_> {
     fn shows(&self, n: usize, wires: &[u32]) -> u32
         requires { (n < cell_count self.now.netlist.now)
             × (length wires.now ≡ cell_count self.now.netlist.now) }
-        ensures { result ≡ value self.now.width self.now.load self.now.words.now
+        ensures { result ≡ value self.now.width.bits self.now.load self.now.words.now
             (held_by self.now.before n) (at (take n wires.now))
             (cell_at self.now.netlist.now n) }
     {
@@ -93,8 +94,7 @@ impl Cycle<'_> {
                 if self.high(n, 1, wires) { yes } else { no }
             }
             Gate::Copy => self.lower(n, 1, wires),
-            Gate::Binary | Gate::Unary => words::operate(
-                self.width,
+            Gate::Binary | Gate::Unary => self.width.operate(
                 cells::kind(self.netlist, n),
                 self.lower(n, 1, wires),
                 self.lower(n, 2, wires),
@@ -106,7 +106,7 @@ impl Cycle<'_> {
     #[tactic(auto, using(crate::proofs::Passing::passing_on))]
     fn fill(&self, wires: &mut [u32])
         requires { length wires.old ≡ cell_count self.now.netlist.now }
-        ensures { wires.new ≡ pass self.now.width self.now.load self.now.words.now
+        ensures { wires.new ≡ pass self.now.width.bits self.now.load self.now.words.now
             (held_by self.now.before) [] (cells_of self.now.netlist.now) }
     {
         for n in 0..cells::count(self.netlist) {
@@ -116,13 +116,14 @@ impl Cycle<'_> {
 }
 
 // All wires of cycle 0.
+#[tactic(auto, using(cells::proofs::Passed::narrow))]
 pub fn first<'a>(width: u32, netlist: &'a [u32], load: bool, words: &'a [u32], wires: &mut [u32])
     requires { Ready width netlist.now (length words.now) (length wires.old) }
     ensures { wires.new ≡ power_up width (λ n. 0) netlist.now load
         words.now }
 {
     Cycle {
-        width,
+        width: Width { bits: width },
         netlist,
         before: None,
         load,
@@ -132,6 +133,7 @@ pub fn first<'a>(width: u32, netlist: &'a [u32], load: bool, words: &'a [u32], w
 }
 
 // All wires of a cycle from those of the cycle before.
+#[tactic(auto, using(cells::proofs::Passed::narrow))]
 pub fn next<'a>(
     width: u32,
     netlist: &'a [u32],
@@ -146,7 +148,7 @@ pub fn next<'a>(
         load words.now }
 {
     Cycle {
-        width,
+        width: Width { bits: width },
         netlist,
         before: Some(before),
         load,

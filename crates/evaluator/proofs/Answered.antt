@@ -36,9 +36,6 @@ module _ (w : ℕ) (t : List ℕ) (x : Words) (n : ℕ) where
     unfolding facts_of
     went = (answers (verdict_of w t) (known_facts t) facts (sym h)).0
 
-    pub wide : w ≤ 32
-    wide = (table w t facts (sym h)).wide.1
-
     pub words_refused : false ≡ words_fit w (ins (main_of t)) x → refused cause.InputWords 0 ≡ evaluated_of w t x n
     unfolding evaluated_of
     words_refused f = rw (went, ← f)
@@ -55,7 +52,7 @@ module _ (w : ℕ) (t : List ℕ) (x : Words) (n : ℕ) where
       words_ran = rw (went, ← fit)
 
 -- The checks in their order.
-pub ruleset in_order = (refused_before, wide, words_refused, few_words, words_ran)
+pub ruleset in_order = (refused_before, words_refused, few_words, words_ran)
 
 -- What the run of the main term leaves is the answer.
 told-unfinished : (o : ℕ) (r : Run) (array : Words) → Leaves r None array → None ≡ answered o r

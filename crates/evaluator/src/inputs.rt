@@ -4,12 +4,13 @@ ghost use Rattle.std.specs.Prelude.{◌≡◌, ◌≤◌, length};
 ghost use Rattle.meaning.specs.Choices.{«padded»};
 ghost use Rattle.meaning.specs.Answers.{words_fit};
 
+use words::Width;
+
 // 11: as many words as are taken, each of the width.
-pub fn fit(width: u32, taken: usize, input: &[u32]) -> bool
-    requires { width ≤ 32 }
-    ensures { result ≡ words_fit width taken input.now }
+pub fn fit(width: Width, taken: usize, input: &[u32]) -> bool
+    ensures { result ≡ words_fit width.bits taken input.now }
 {
-    input.len() == taken && words::all_fit(width, input)
+    input.len() == taken && width.all_fit(input)
 }
 
 // The words, and zeros after them.

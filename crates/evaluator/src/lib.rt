@@ -49,6 +49,7 @@ pub fn evaluate(
         terms: &terms,
     };
     let taken = accepted.takes(accepted.main());
+    let width = accepted.width();
     if !inputs::fit(width, taken as usize, words) {
         return Err(Cause::InputWords.into());
     }

@@ -12,11 +12,12 @@ ghost use Rattle.circuit.specs.Simulated.{step_verdict};
 ghost use Rattle.glance.specs.Sound.{AllSound};
 
 use rows::Look;
+use words::Width;
 
 // Whether every cell and its wire of the cycle before passes.
-fn all_sound(width: u32, netlist: &[u32], given: usize, wires: &[u32]) -> bool
-    requires { (width ≤ 32) × (given ≤ 16) × (length wires.now ≡ cell_count netlist.now) }
-    ensures { result ≡ true → AllSound width netlist.now given
+fn all_sound(width: Width, netlist: &[u32], given: usize, wires: &[u32]) -> bool
+    requires { (given ≤ 16) × (length wires.now ≡ cell_count netlist.now) }
+    ensures { result ≡ true → AllSound width.bits netlist.now given
         wires.now (cell_count netlist.now) }
 {
     let look = Look {
@@ -36,13 +37,15 @@ pub fn step(width: u32, netlist: &[u32], before: &[u32], words: &[u32], room: us
     ensures { result ≡ true → step_verdict width netlist.now before.now
         words.now room ≡ passed }
 {
+    let Ok(width) = Width::try_from(width) else {
+        return false;
+    };
     let count = cells::count(netlist);
     let given = words.len();
-    words::width_fits(width)
-        && cells::netlist_fits(netlist)
+    cells::netlist_fits(netlist)
         && before.len() == count
         && room == count
         && given <= 16
-        && words::all_fit(width, words)
+        && width.all_fit(words)
         && all_sound(width, netlist, given, before)
 }

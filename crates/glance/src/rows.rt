@@ -6,15 +6,15 @@ ghost use Rattle.glance.specs.Asked.{BitBelow, WordBelow, Row};
 ghost use Rattle.glance.specs.Sound.{Sound};
 
 use circuit::Gate;
+use words::Width;
 
 // What the cells of a step are looked at with: the width, the netlist, and how many words are
 // given.
 #[derive(Clone, Copy)]
 pub struct Look<'a> {
-    pub width: u32,
+    pub width: Width,
     pub netlist: &'a [u32],
     pub given: usize,
-    ghost narrow: { width ≤ 32 },
     ghost few: { given ≤ 16 },
 }
 
@@ -38,11 +38,11 @@ impl Look<'_> {
     // Whether cell n, with the numbers that it has, and what its wire shows meet the row of a gate.
     fn row(&self, gate: Gate, n: usize, cell: [u32; 4], shown: u32) -> bool
         requires { n < cell_count self.now.netlist.now }
-        ensures { result ≡ true → Row self.now.width self.now.netlist.now self.now.given n shown
-            cell gate }
+        ensures { result ≡ true → Row self.now.width.bits self.now.netlist.now self.now.given n
+            shown cell gate }
     {
         let cells = cells::count(self.netlist);
-        let most = words::ones(self.width);
+        let most = self.width.ones();
         let [kind, x, y, z] = cell;
         match gate {
             Gate::Load => shown <= 1 && x == 0 && y == 0 && z == 0,
@@ -70,7 +70,8 @@ impl Look<'_> {
     // on its gate.
     pub fn sound(&self, n: usize, shown: u32) -> bool
         requires { n < cell_count self.now.netlist.now }
-        ensures { result ≡ true → Sound self.now.width self.now.netlist.now n self.now.given shown }
+        ensures { result ≡ true → Sound self.now.width.bits self.now.netlist.now n
+            self.now.given shown }
     {
         let kind = cells::kind(self.netlist, n);
         let x = cells::number(self.netlist, n, 1);

@@ -2,19 +2,19 @@
 // docs/READING.md: "Term tables", "Refusal numbers".
 #![tactic(auto)]
 
-ghost use Rattle.std.specs.Prelude.{◌≡◌, ◌≤◌, true, eqb, leb};
+ghost use Rattle.std.specs.Prelude.{◌≡◌, true, eqb, leb};
 ghost use Rattle.meaning.specs.Choices.{or};
 ghost use Rattle.meaning.specs.Checks.{
   known_kind,
   operands_of,
   used_of,
   unused_zero,
-  few_words,
   values_fit,
 };
 ghost use Rattle.kinds.specs.Early.{alone, early_of};
 
 use meaning::{Cause, Kind};
+use words::Width;
 
 // 3: the kind is one of the table's.
 fn known(kind: u32) -> bool
@@ -55,30 +55,22 @@ fn unused_zero(kind: u32, a: u32, b: u32, c: u32) -> bool
     [a, b, c].iter().skip(used(kind)).all(|x| *x == 0)
 }
 
-// m is 1 to 16.
-fn few_words(m: u32) -> bool
-    ensures { result ≡ few_words m }
-{
-    (1..=16).contains(&m)
-}
-
 // 5: m is 1 to 16; a Const's v is a word, a Field's k is below m.
-fn values_fit(width: u32, kind: u32, m: u32, v: u32) -> bool
-    requires { (width ≤ 32) × (known_kind kind ≡ true) }
-    ensures { result ≡ values_fit width (alone kind m v 0) 0 }
+fn values_fit(width: Width, kind: u32, m: u32, v: u32) -> bool
+    requires { known_kind kind ≡ true }
+    ensures { result ≡ values_fit width.bits (alone kind m v 0) 0 }
 {
     match Kind::from(kind) {
-        Kind::Const => few_words(m) && words::fits(width, v),
-        Kind::Field => few_words(m) && v < m,
+        Kind::Const => words::few_words(m) && width.fits(v),
+        Kind::Field => words::few_words(m) && v < m,
         _ => true,
     }
 }
 
 // The first refusal of 3 to 5 that a term of these numbers gives, if one does.
 #[tactic(auto, unfolding(crate::specs::Early::early_of))]
-pub fn early(width: u32, kind: u32, a: u32, b: u32, c: u32) -> Result<(), Cause>
-    requires { width ≤ 32 }
-    ensures { result ≡ early_of width kind a b c }
+pub fn early(width: Width, kind: u32, a: u32, b: u32, c: u32) -> Result<(), Cause>
+    ensures { result ≡ early_of width.bits kind a b c }
 {
     if !known(kind) {
         return Err(Cause::TermKind);

@@ -6,7 +6,7 @@ use mathlib.Core.List.{List, [], ◌∷◌, ◌++◌, append_assoc, map}
 use native.Mathlib.Numerals.{add-one}
 use native.Mathlib.Omega.{arith}
 use lib.ListN.{length, get_or, set, take, drop, replicate, length-append}
-use lib.Seq.{take_at, set_at, drop-append-add, drop-cons, length-take-le}
+use lib.Seq.{take_at, set_at, drop-append-add, drop-cons, length-take-le, take-length}
 use Rattle.std.specs.List.{range_with_len}
 use Rattle.std.proofs.lemmas.List.{drop-replicate, length-map, map_more, take_more}
 use Rattle.std.proofs.lemmas.List.FromFn.{length-map-range_with_len, map-range_with_len_more}
@@ -32,17 +32,18 @@ by-numbers f R m none more (suc n) j h =
 pub inputs-row : (n : ℕ) → map input_cell (range_with_len 0 n) ≡ input_cells 0 n
 inputs-row n = by-numbers input_cell input_cells n (λ j. refl) (λ j m h. refl) n 0 (omega arith)
 
-pub registers-row : (n : ℕ) (xs : List ℕ) → n ≤ length xs →
-    map (λ j. word_register (get_or xs j 0)) (range_with_len 0 n) ≡ registers (take n xs)
-registers-row n xs h =
+pub registers-row : (xs : List ℕ) → map (λ j. word_register (get_or xs j 0)) (range_with_len 0 (length xs)) ≡ registers xs
+registers-row xs =
     by-numbers (λ j. word_register (get_or xs j 0)) (λ j m. registers (take m (drop j xs))) (length xs) (λ j. refl)
-    (λ j m l. rw (drop-cons xs j 0 l)) n 0 (omega arith)
+    (λ j m l. rw (drop-cons xs j 0 l)) (length xs) 0 (omega arith)
+    ∙ ap registers (take-length xs)
 
-pub choices-row : (n s : ℕ) (xs ys : List ℕ) → n ≤ length xs → length xs ≡ length ys →
-    map (λ j. choice_cell s (get_or xs j 0) (get_or ys j 0)) (range_with_len 0 n) ≡ choices s (take n xs) (take n ys)
-choices-row n s xs ys h e =
+pub choices-row : (s : ℕ) (xs ys : List ℕ) → length xs ≡ length ys →
+    map (λ j. choice_cell s (get_or xs j 0) (get_or ys j 0)) (range_with_len 0 (length xs)) ≡ choices s xs ys
+choices-row s xs ys e =
     by-numbers (λ j. choice_cell s (get_or xs j 0) (get_or ys j 0)) (λ j m. choices s (take m (drop j xs)) (take m (drop j ys)))
-    (length xs) (λ j. refl) (λ j m l. rw (drop-cons xs j 0 l, drop-cons ys j 0 (omega arith))) n 0 (omega arith)
+    (length xs) (λ j. refl) (λ j m l. rw (drop-cons xs j 0 l, drop-cons ys j 0 (omega arith))) (length xs) 0 (omega arith)
+    ∙ rw (take-length xs, e, take-length ys) refl
 
 -- Rows of two lists, one behind the other.
 keeps-append : (xs ys : List ℕ) (p q s : ℕ) → p + 2 * length xs ≡ q → keeps p s (xs ++ ys) ≡ keeps p s xs ++ keeps q s ys
@@ -61,10 +62,6 @@ wires-more (suc n) p q e = ap (λ (l : List ℕ). p ∷ l) (wires-more n (suc p)
 -- An array that holds a row, one word longer.
 pub wires-sixteen : (p n : ℕ) → n ≤ 16 → length (padded 16 (wires_from p n)) ≡ 16
 wires-sixteen p n h = padded-length 16 (wires_from p n) (omega (arith, wires-length n p))
-
-pub kept-sixteen : (p n : ℕ) (words : List ℕ) → n ≤ 16 → length words ≡ 16 → length (padded 16 (kept p (take n words))) ≡ 16
-kept-sixteen p n words h e =
-    padded-length 16 (kept p (take n words)) (omega (arith, kept-length (take n words) p, length-take-le n words (omega arith)))
 
 pub padded-first : (n m : ℕ) (l : List ℕ) → length l ≡ m → take m (padded n l) ≡ l
 padded-first n m l e = take_at l (replicate (n - length l) 0) m e

@@ -1,8 +1,7 @@
-// Rows: one wire or cell for each of n words, at most 16.
-// Words stand in a lent array of 16 wires, of which those past n are not read; a row that is
-// written there has 0 past n.
+// Rows: one wire or cell for each of a block's words, at most 16.
+// The words are a slice; a row of n that is written into a lent array of 16 has 0 past n.
 // docs/READING.md: "Cells".
-ghost use Rattle.std.specs.Prelude.{◌≡◌, ◌+◌, ◌*◌, ◌<◌, ◌≤◌, ℕ, length, map, take};
+ghost use Rattle.std.specs.Prelude.{◌≡◌, ◌+◌, ◌*◌, ◌<◌, ◌≤◌, ℕ, length, map};
 ghost use Rattle.std.specs.List.{range_with_len};
 ghost use Rattle.meaning.specs.Choices.{padded};
 ghost use Rattle.circuit.specs.Gates.{cell_of};
@@ -24,22 +23,14 @@ pub fn wires(row: &mut [u32; 16], at: u32, n: u32)
     }
 }
 
-// Keeps n words under `start`: for each a register and a choice. The row gets the registers.
-pub fn keep(
-    netlist: &mut [u32],
-    at: u32,
-    start: u32,
-    words: &[u32; 16],
-    n: u32,
-    row: &mut [u32; 16],
-)
-    requires { (n ≤ 16) × (Room netlist.old at (2 * n)) × (length words.now ≡ 16) }
-    ensures { (row.new ≡ padded 16 (kept at (take n words.now)))
-        × (netlist.new
-        ≡ written netlist.old at (keeps at start (take n words.now))) }
+// Keeps words under `start`: for each a register and a choice. The row gets the registers.
+pub fn keep(netlist: &mut [u32], at: u32, start: u32, words: &[u32], row: &mut [u32; 16])
+    requires { (length words.now ≤ 16) × (Room netlist.old at (2 * length words.now)) }
+    ensures { (row.new ≡ padded 16 (kept at words.now))
+        × (netlist.new ≡ written netlist.old at (keeps at start words.now)) }
 {
     *row = [0; 16];
-    for (j, word) in words[..n as usize].iter().enumerate() {
+    for (j, word) in words.iter().enumerate() {
         let p = at + 2 * j as u32;
         let pair = [Cell::WordRegister(p + 1), Cell::Choice(start, *word, p)];
         place_all(netlist, p, &pair);
@@ -60,27 +51,25 @@ fn place_each<F: Fn(u32) -> Cell>(netlist: &mut [u32], at: u32, n: u32, cell: F)
     }
 }
 
-// Chooses n words on a bit, the first of each two where it is high.
-pub fn choose(netlist: &mut [u32], at: u32, bit: u32, first: &[u32; 16], second: &[u32; 16], n: u32)
-    requires { (n ≤ 16) × (Room netlist.old at n)
-        × (length first.now ≡ 16) × (length second.now ≡ 16) }
-    ensures { netlist.new ≡ written netlist.old at
-        (choices bit (take n first.now) (take n second.now)) }
+// Chooses words on a bit, the first of each two where it is high.
+pub fn choose(netlist: &mut [u32], at: u32, bit: u32, first: &[u32], second: &[u32])
+    requires { (length first.now ≡ length second.now) × (Room netlist.old at (length first.now)) }
+    ensures { netlist.new ≡ written netlist.old at (choices bit first.now second.now) }
 {
     place_each(
         netlist,
         at,
-        n,
+        first.len() as u32,
         |j| Cell::Choice(bit, first[j as usize], second[j as usize]),
     );
 }
 
-// A register of each of n words.
-pub fn registers(netlist: &mut [u32], at: u32, words: &[u32; 16], n: u32)
-    requires { (n ≤ 16) × (Room netlist.old at n) × (length words.now ≡ 16) }
-    ensures { netlist.new
-        ≡ written netlist.old at («registers» (take n words.now)) }
+// A register of each word.
+pub fn registers(netlist: &mut [u32], at: u32, words: &[u32])
+    requires { Room netlist.old at (length words.now) }
+    ensures { netlist.new ≡ written netlist.old at («registers» words.now) }
 {
+    let n = words.len() as u32;
     place_each(netlist, at, n, |j| Cell::WordRegister(words[j as usize]));
 }
 
@@ -93,13 +82,11 @@ pub fn inputs(netlist: &mut [u32], n: u32)
     place_each(netlist, 1, n, Cell::Input);
 }
 
-// The first n words with m others behind them.
-pub fn join(words: &mut [u32; 16], n: u32, others: &[u32; 16], m: u32)
-    requires { (n + m ≤ 16) × (length words.old ≡ 16) × (length others.now ≡ 16) }
-    ensures { words.new
-        ≡ placed words.old n (take m others.now) }
+// The first n words with others behind them.
+pub fn join(words: &mut [u32; 16], n: u32, others: &[u32])
+    requires { n + length others.now ≤ 16 }
+    ensures { words.new ≡ placed words.old n others.now }
 {
     let n = n as usize;
-    let m = m as usize;
-    words[n..n + m].copy_from_slice(&others[..m]);
+    words[n..n + others.len()].copy_from_slice(others);
 }

@@ -33,34 +33,33 @@ pub fn round(
     kept: &mut [u32; 16],
     n: u32,
 )
-    requires { (n ≤ 16) × (Room netlist.old (at + 1 + n) (1 + 3 * n))
-        × (length words.old ≡ 16) }
+    requires { (n ≤ 16) × (Room netlist.old (at + 1 + n) (1 + 3 * n)) }
     ensures { (words.new ≡ padded 16 (round_of at start (take n words.old)).us)
         × (kept.new ≡ padded 16 (round_of at start (take n words.old)).ks)
         × (netlist.new ≡ written netlist.old (at + 1 + n)
         (round_of at start (take n words.old)).cells) }
 {
     let o = at + 1 + n;
+    let i = n as usize;
     place(netlist, o, Cell::Or(start, at));
     wires(kept, at + 1, n);
-    choose(netlist, o + 1, at, kept, words, n);
+    choose(netlist, o + 1, at, &kept[..i], &words[..i]);
     wires(words, o + 1, n);
-    keep(netlist, o + 1 + n, o, words, n, kept);
+    keep(netlist, o + 1 + n, o, &words[..i], kept);
 }
 
 // Behind the branches of a Rec: the ending, and at the front what reads g: "again", a register of
 // g's rise, and a register of each of g's outputs.
-pub fn feed(netlist: &mut [u32], at: u32, both: Forked, words: &[u32; 16], n: u32) -> Made
-    requires { (n ≤ 16) × (Room netlist.old both.next 7) × (at + 1 + n ≤ both.next)
-        × (length words.now ≡ 16) }
+pub fn feed(netlist: &mut [u32], at: u32, both: Forked, words: &[u32]) -> Made
+    requires { (Room netlist.old both.next 7) × (at + 1 + length words.now ≤ both.next) }
     ensures { (result ≡ record { next = both.next + 7; done = both.next + 6 })
         × (netlist.new ≡ written (written netlist.old both.next
         (ending_on both.next both.tested both.left both.again)) at
-        (low_register (both.next + 2) ∷ «registers» (take n words.now))) }
+        (low_register (both.next + 2) ∷ «registers» words.now)) }
 {
     let p = both.next;
     ending(netlist, p, both.tested, both.left, both.again);
-    registers(netlist, at + 1, words, n);
+    registers(netlist, at + 1, words);
     place(netlist, at, Cell::LowRegister(p + 2));
     Made {
         next: p + 7,
@@ -70,27 +69,22 @@ pub fn feed(netlist: &mut [u32], at: u32, both: Forked, words: &[u32; 16], n: u3
 
 // Behind the branches of an Ite: all three dones; each output chosen on the test's word, f's where
 // it is not zero.
-pub fn merge(
-    netlist: &mut [u32],
-    both: Forked,
-    words: &mut [u32; 16],
-    others: &[u32; 16],
-    m: u32,
-) -> Made
-    requires { (m ≤ 16) × (Room netlist.old both.next (2 + m)) × (both.gate ≤ 4096)
-        × (length words.old ≡ 16) × (length others.now ≡ 16) }
-    ensures { (result ≡ record { next = both.next + 2 + m; done = both.next + 1 })
-        × (words.new ≡ padded 16 (wires_from (both.next + 2) m))
+pub fn merge(netlist: &mut [u32], both: Forked, words: &mut [u32; 16], others: &[u32]) -> Made
+    requires { (length others.now ≤ 16) × (Room netlist.old both.next (2 + length others.now))
+        × (both.gate ≤ 4096) }
+    ensures { (result ≡ record { next = both.next + 2 + length others.now; done = both.next + 1 })
+        × (words.new ≡ padded 16 (wires_from (both.next + 2) (length others.now)))
         × (netlist.new ≡ written netlist.old both.next
-        (merge_cells both (take m words.old) (take m others.now))) }
+        (merge_cells both (take (length others.now) words.old) others.now)) }
 {
     let p = both.next;
+    let m = others.len();
     let dones = [Cell::And(both.tested, both.left), Cell::And(p, both.again)];
     place_all(netlist, p, &dones);
-    choose(netlist, p + 2, both.gate + 3, words, others, m);
-    wires(words, p + 2, m);
+    choose(netlist, p + 2, both.gate + 3, &words[..m], others);
+    wires(words, p + 2, m as u32);
     Made {
-        next: p + 2 + m,
+        next: p + 2 + m as u32,
         done: p + 1,
     }
 }

@@ -29,14 +29,13 @@ fn outputs_fit(netlist: &[u32], o: u32, outs: &[u32; 16]) -> bool
     })
 }
 
-// Whether all ports fit: i and o are 1 to 16, every input cell names one of the i words, done is a
-// bit, and the outputs fit.
+// Whether all ports fit.
 #[tactic(auto, unfolding(crate::specs::Interface::ports_fit))]
 pub fn fit(netlist: &[u32], i: u32, o: u32, done: u32, outs: &[u32; 16]) -> bool
     ensures { result ≡ ports_fit netlist.now i o done outs.now }
 {
-    (1..=16).contains(&i)
-        && (1..=16).contains(&o)
+    words::few_words(i)
+        && words::few_words(o)
         && cells::names_given(netlist, i as usize)
         && driver(netlist, done).is_some_and(kinds::drives_bit)
         && outputs_fit(netlist, o, outs)

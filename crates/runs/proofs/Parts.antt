@@ -80,6 +80,7 @@ module _ {w : ℕ} {t : List ℕ} {k : ℕ} (row : LeafRow w t k) {n b : ℕ} (p
       let f = row.field (row.between (rw p at h) (λ z. e (p ∙ z))) in
       omega (arith, f.1, f.2)
 
-  pub leaf-from : (start limit : ℕ) (x : Words) → term_from w t k start limit x ≡ run_from (leaf_run (leaf_word w n b)) start limit x
+  pub leaf-from : {v : ℕ} → v ≡ w → (start limit : ℕ) (x : Words) →
+      term_from w t k start limit x ≡ run_from (leaf_run (leaf_word v n b)) start limit x
   unfolding evaluate
-  leaf-from start limit x = rw (p, q, row.decoded)
+  leaf-from e start limit x = rw (p, q, e, row.decoded)

@@ -35,7 +35,7 @@ pub fn term(
         _ => {
             let kind = table.number(k, 0);
             let b = table.number(k, 2);
-            leaves::leaf(table.width, kind, b, words, start, limit)
+            leaves::leaf(table.width(), kind, b, words, start, limit)
         }
     }
 }

@@ -12,14 +12,14 @@ ghost use Rattle.circuit.specs.Simulated.{
 };
 
 use meaning::{Cause, Refusal};
+use words::Width;
 
 // 11: at most 16 words, all that the input cells name, each below 2 ^ width.
-fn inputs(width: u32, netlist: &[u32], words: &[u32]) -> Result<(), Refusal>
-    requires { width ≤ 32 }
-    ensures { result ≡ inputs_verdict width netlist.now words.now }
+fn inputs(width: Width, netlist: &[u32], words: &[u32]) -> Result<(), Refusal>
+    ensures { result ≡ inputs_verdict width.bits netlist.now words.now }
 {
     let given = words.len();
-    if given <= 16 && cells::names_given(netlist, given) && words::all_fit(width, words) {
+    if given <= 16 && cells::names_given(netlist, given) && width.all_fit(words) {
         Ok(())
     } else {
         Err(Cause::InputWords.into())
@@ -27,26 +27,25 @@ fn inputs(width: u32, netlist: &[u32], words: &[u32]) -> Result<(), Refusal>
 }
 
 // 18 where wire n is past the range of a bit or a word.
-fn wire_refusal(width: u32, netlist: &[u32], wires: &[u32], n: usize) -> Result<(), Cause>
-    requires { (width ≤ 32) × (n < cell_count netlist.now) × (n < length wires.now) }
-    ensures { result ≡ wire_refusal width netlist.now wires.now n }
+fn wire_refusal(width: Width, netlist: &[u32], wires: &[u32], n: usize) -> Result<(), Cause>
+    requires { (n < cell_count netlist.now) × (n < length wires.now) }
+    ensures { result ≡ wire_refusal width.bits netlist.now wires.now n }
 {
     let shown = wires[n];
     let fits = if cells::kinds::drives_bit(cells::kind(netlist, n)) {
         shown <= 1
     } else {
-        words::fits(width, shown)
+        width.fits(shown)
     };
     if fits { Ok(()) } else { Err(Cause::WireValue) }
 }
 
 // 18: the lowest wire past its range.
 #[tactic(auto, using(crate::proofs::Judging::by_steps))]
-fn wires_fit(width: u32, netlist: &[u32], wires: &[u32]) -> Result<(), Refusal>
-    requires { (width ≤ 32) × (cell_count netlist.now ≤ 4096)
-        × (length wires.now ≡ cell_count netlist.now) }
+fn wires_fit(width: Width, netlist: &[u32], wires: &[u32]) -> Result<(), Refusal>
+    requires { (cell_count netlist.now ≤ 4096) × (length wires.now ≡ cell_count netlist.now) }
     ensures { result ≡ first_refusal
-        (wire_refusal width netlist.now wires.now)
+        (wire_refusal width.bits netlist.now wires.now)
         (cell_count netlist.now) 0 passed }
 {
     for n in 0..cells::count(netlist) {
@@ -57,11 +56,12 @@ fn wires_fit(width: u32, netlist: &[u32], wires: &[u32]) -> Result<(), Refusal>
 }
 
 // At power-up: 1, 12 to 16, 17 and 11.
-#[tactic(auto, using(crate::proofs::Judging::power_up_in_order))]
+#[tactic(auto, using(cells::proofs::Passed::narrow, crate::proofs::Judging::power_up_in_order))]
 pub fn power_up(width: u32, netlist: &[u32], words: &[u32], room: usize) -> Result<(), Refusal>
     ensures { result ≡ power_up_verdict width netlist.now words.now room }
 {
     cells::check(width, netlist)?;
+    let width = Width { bits: width };
     if room != cells::count(netlist) {
         return Err(Cause::WireRoom.into());
     }
@@ -70,7 +70,7 @@ pub fn power_up(width: u32, netlist: &[u32], words: &[u32], room: usize) -> Resu
 
 // At a step: 1, 12 to 16, 17 of both buffers, 18 and 11. One look a cell tells whether there is a
 // refusal to be named.
-#[tactic(auto, using(crate::proofs::Judging::step_in_order))]
+#[tactic(auto, using(cells::proofs::Passed::narrow, crate::proofs::Judging::step_in_order))]
 pub fn step(
     width: u32,
     netlist: &[u32],
@@ -85,6 +85,7 @@ pub fn step(
         return Ok(());
     }
     cells::check(width, netlist)?;
+    let width = Width { bits: width };
     let count = cells::count(netlist);
     if before.len() != count || room != count {
         return Err(Cause::WireRoom.into());

@@ -15,6 +15,7 @@ ghost use Rattle.tables.specs.Readings.{early_at, lower_operands_at, judged_at, 
 ghost use Rattle.tables.specs.Scans.{Scanned};
 
 use meaning::{Cause, Known, Refusal};
+use words::Width;
 
 // What stands for a term that is not judged yet.
 const NOTHING_KNOWN: Known = Known {
@@ -40,9 +41,9 @@ pub fn operand(table: &[u32], k: usize, j: usize) -> usize
 }
 
 // 3 to 5 of term k.
-fn early(width: u32, table: &[u32], k: usize) -> Result<(), Cause>
-    requires { (width ≤ 32) × (k * 4 + 4 ≤ length table.now) }
-    ensures { result ≡ early_at width table.now k }
+fn early(width: Width, table: &[u32], k: usize) -> Result<(), Cause>
+    requires { k * 4 + 4 ≤ length table.now }
+    ensures { result ≡ early_at width.bits table.now k }
 {
     let kind = number(table, k, 0);
     let a = number(table, k, 1);
@@ -66,9 +67,9 @@ fn lower_operands(table: &[u32], k: usize) -> Result<(), Cause>
 
 // 3 to 8 of term k, or what it gives, its lower terms being known.
 #[tactic(auto, using(crate::proofs::Scan::judged_by))]
-fn judged(width: u32, table: &[u32], k: usize, terms: &[Known; 256]) -> Result<Known, Cause>
-    requires { (width ≤ 32) × (Ready table.now k terms.now) }
-    ensures { result ≡ judged_at width table.now k }
+fn judged(width: Width, table: &[u32], k: usize, terms: &[Known; 256]) -> Result<Known, Cause>
+    requires { Ready table.now k terms.now }
+    ensures { result ≡ judged_at width.bits table.now k }
 {
     early(width, table, k)?;
     lower_operands(table, k)?;
@@ -76,9 +77,9 @@ fn judged(width: u32, table: &[u32], k: usize, terms: &[Known; 256]) -> Result<K
 }
 
 // 3 to 8: the first refusal, or what is known of every term.
-pub fn scanned(width: u32, table: &[u32]) -> Result<[Known; 256], Refusal>
-    requires { (width ≤ 32) × (length table.now ≤ 1024) }
-    ensures { Scanned width table.now result }
+pub fn scanned(width: Width, table: &[u32]) -> Result<[Known; 256], Refusal>
+    requires { length table.now ≤ 1024 }
+    ensures { Scanned width.bits table.now result }
 {
     let mut terms = [NOTHING_KNOWN; 256];
     for k in 0..table.len() / 4 {

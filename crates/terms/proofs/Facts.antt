@@ -30,6 +30,9 @@ module _ (w : ℕ) (t : List ℕ) (terms : List Known) (judged : facts_of w t �
   pub table : Accepted w t
   table = accepted w t both.0
 
+  pub narrow : w ≤ 32
+  narrow = table.wide.1
+
   -- What is known of term k.
   pub term_at : (k : ℕ) → k < count t → get_or terms k nothing_known ≡ known_of (tree t k)
   term_at k l = rw both.1 (facts-at t (omega (arith, table.some)) k nothing_known l)

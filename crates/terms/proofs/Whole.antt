@@ -1,19 +1,17 @@
 -- Law: the facts of a table, from the width, the length, the scan and the cells of the main term, in the order of the checks.
 -- Cited by the proof of `check`. Assumes nothing.
 use Prim.Native.Nat.{ℕ, zero, suc, ◌+◌, ◌%◌, ◌≤◌, ◌<◌}
-use mathlib.Core.Path.{◌≡◌, refl, sym, ◌∙◌}
-use mathlib.Core.Bool.{Bool, true, false}
+use mathlib.Core.Path.{◌≡◌, refl, sym}
+use mathlib.Core.Bool.{true, false}
 use mathlib.Core.List.{List}
 use native.Mathlib.Nat.{min-le_right}
 use native.Mathlib.Omega.{arith}
-use lib.Dec.{leb}
 use lib.ListN.{length, get_or}
 use borrow.Author.Tests.{leb-true, eqb-true, le-leb, lt-leb}
 use Rattle.std.specs.Prelude.{Result, Ok, Err}
 use Rattle.meaning.specs.declared.Cause.TheVariants as cause
 use Rattle.meaning.specs.declared.Refusal.{Refusal}
 use Rattle.meaning.specs.declared.Known.{Known}
-use Rattle.meaning.specs.Choices.{pick}
 use Rattle.meaning.specs.Refusals.{Check, Verdict, passed, refused, on_verdict}
 use Rattle.meaning.specs.Terms.{count, last_of, main_of}
 use Rattle.meaning.specs.Counts.{ins, size, capped, whole_size}
@@ -21,9 +19,7 @@ use Rattle.meaning.specs.Checks.{width_fits, length_fits, refusal_at, size_verdi
 use Rattle.meaning.specs.Answers.{known_of, nothing_known, known_facts, facts_of}
 use Rattle.meaning.proofs.Lists.{facts-at}
 use Rattle.meaning.proofs.Tests.{both}
-use Rattle.meaning.proofs.Verdicts.{went_on}
 use Rattle.tables.specs.Scans.{Scanned}
-use Rattle.terms.specs.Checked.{framed_of}
 use Rattle.terms.proofs.Facts.{answers}
 
 -- What follows a check is asked only where it refuses nothing.
@@ -37,14 +33,6 @@ unfolding first_refusal
 follows check zero k v = refl
 follows check (suc n) k v = rw (follows check n (suc k) v) (after (check k) k (first_refusal check n (suc k) passed) v)
 
--- The width and the length come before all that follows.
-framed : {A : Type 0} (a b : Bool) (v : Verdict) (x : A) (f : Refusal → A) →
-    on_verdict (pick a (pick b v (refused cause.TableLength 0)) (refused cause.Width 0)) x f
-    ≡ on_verdict (pick a (pick b passed (refused cause.TableLength 0)) (refused cause.Width 0)) (on_verdict v x f) f
-framed true true v x f = refl
-framed true false v x f = refl
-framed false b v x f = refl
-
 chained : (u v : Verdict) (f : List Known) →
     ◌≡◌ {A = Result (List Known) Refusal} (on_verdict (on_verdict u v Err) (Ok f) Err) (on_verdict u (on_verdict v (Ok f) Err) Err)
 chained (Ok u) v f = refl
@@ -54,6 +42,15 @@ fails : (u : Verdict) (f : List Known) (e : Refusal) → ◌≡◌ {A = Result (
 fails (Ok u) f e h = let z : ◌≡◌ {A = ℕ} 0 1 = cc in absurd (omega arith)
 fails (Err d) f e h = cc
 
+-- How many terms there are.
+pub length_in : (t : List ℕ) → length_fits t ≡ true → (1 ≤ count t) × (length t ≤ 1024)
+length_in t h =
+    let l = both _ _ h in
+    let m = both _ _ l.1 in
+    let some : 1 ≤ length t = leb-true _ _ l.0 in
+    let four : length t % 4 ≡ 0 = eqb-true _ _ m.0 in
+    (omega arith, leb-true _ _ m.1)
+
 module _ (w : ℕ) (t : List ℕ) where
   -- The scan of the terms, and then the size.
   abbrev scan : Verdict
@@ -62,61 +59,53 @@ module _ (w : ℕ) (t : List ℕ) where
   abbrev sized : Result (List Known) Refusal
   sized = on_verdict (size_verdict t) (Ok (known_facts t)) Err
 
-  by_checks : facts_of w t ≡ on_verdict (framed_of w t) (on_verdict scan sized Err) Err
-  unfolding facts_of verdict_of framed_of
-  by_checks =
-      framed (width_fits w) (length_fits t) (first_refusal (refusal_at w t) (count t) 0 (size_verdict t)) (Ok (known_facts t)) Err
-      ∙ rw (follows (refusal_at w t) (count t) 0 (size_verdict t), chained scan (size_verdict t) (known_facts t))
+  pub width_refused : width_fits w ≡ false → refused cause.Width 0 ≡ facts_of w t
+  unfolding facts_of verdict_of
+  width_refused h = rw h
 
-  pub frame_refused : (e : Refusal) → Err e ≡ framed_of w t → Err e ≡ facts_of w t
-  frame_refused e h = rw (by_checks, ← h)
+  module _ (wide : width_fits w ≡ true) where
+    pub length_refused : length_fits t ≡ false → refused cause.TableLength 0 ≡ facts_of w t
+    unfolding facts_of verdict_of
+    length_refused h = rw (wide, h)
 
-  module _ (h : passed ≡ framed_of w t) where
-    -- The width, and how many terms there are.
-    pub framed_in : (w ≤ 32) × (1 ≤ count t) × (length t ≤ 1024)
-    unfolding framed_of
-    framed_in =
-        let a = went_on _ _ _ (sym h) in
-        let b = went_on _ _ _ a.1 in
-        let l = both _ _ b.0 in
-        let m = both _ _ l.1 in
-        let some : 1 ≤ length t = leb-true _ _ l.0 in
-        let four : length t % 4 ≡ 0 = eqb-true _ _ m.0 in
-        (leb-true _ _ (both (leb 1 w) (leb w 32) a.0).1, omega arith, leb-true _ _ m.1)
+    module _ (long : length_fits t ≡ true) where
+      by_checks : facts_of w t ≡ on_verdict scan sized Err
+      unfolding facts_of verdict_of
+      by_checks = rw (wide, long, follows (refusal_at w t) (count t) 0 (size_verdict t), chained scan (size_verdict t) (known_facts t))
 
-    pub scan_refused : (e : Refusal) → Scanned w t (Err e) → Err e ≡ facts_of w t
-    scan_refused e S = rw (by_checks, ← h, fails scan (known_facts t) e S.first)
+      pub scan_refused : (e : Refusal) → Scanned w t (Err e) → Err e ≡ facts_of w t
+      scan_refused e S = rw (by_checks, fails scan (known_facts t) e S.first)
 
-    module _ (terms : List Known) (S : Scanned w t (Ok terms)) where
-      scanned : (scan ≡ passed) × (terms ≡ known_facts t)
-      scanned = answers scan (known_facts t) terms (sym S.first)
+      module _ (terms : List Known) (S : Scanned w t (Ok terms)) where
+        scanned : (scan ≡ passed) × (terms ≡ known_facts t)
+        scanned = answers scan (known_facts t) terms (sym S.first)
 
-      -- The main term's entry.
-      main-known : get_or terms (last_of t) nothing_known ≡ known_of (main_of t)
-      main-known =
-          let f = framed_in in
-          rw scanned.1 (facts-at t (omega arith) (last_of t) nothing_known (omega arith))
+        -- The main term's entry.
+        main-known : get_or terms (last_of t) nothing_known ≡ known_of (main_of t)
+        main-known =
+            let f = length_in t long in
+            rw scanned.1 (facts-at t (omega arith) (last_of t) nothing_known (omega arith))
 
-      main-sized : 6 + (get_or terms (last_of t) nothing_known).ins + (get_or terms (last_of t) nothing_known).cells
-          ≡ 6 + ins (main_of t) + capped (size (main_of t))
-      main-sized = rw main-known
+        main-sized : 6 + (get_or terms (last_of t) nothing_known).ins + (get_or terms (last_of t) nothing_known).cells
+            ≡ 6 + ins (main_of t) + capped (size (main_of t))
+        main-sized = rw main-known
 
-      pub main_few : ((get_or terms (last_of t) nothing_known).ins ≤ 16) × ((get_or terms (last_of t) nothing_known).cells ≤ 4097)
-      main_few =
-          let f = framed_in in
-          rw main-known (S.few terms refl (last_of t) (omega arith), min-le_right (size (main_of t)) 4097)
+        pub main_few : ((get_or terms (last_of t) nothing_known).ins ≤ 16) × ((get_or terms (last_of t) nothing_known).cells ≤ 4097)
+        main_few =
+            let f = length_in t long in
+            rw main-known (S.few terms refl (last_of t) (omega arith), min-le_right (size (main_of t)) 4097)
 
-      pub size_refused : 4096 < 6 + (get_or terms (last_of t) nothing_known).ins + (get_or terms (last_of t) nothing_known).cells →
-          refused cause.CircuitSize 0 ≡ facts_of w t
-      size_refused g =
-          let m : 4096 < whole_size (main_of t) = omega (arith, main-sized, min-le_right (size (main_of t)) 4097) in
-          rw (by_checks, ← h, scanned.0, lt-leb (whole_size (main_of t)) 4096 m)
+        pub size_refused : 4096 < 6 + (get_or terms (last_of t) nothing_known).ins + (get_or terms (last_of t) nothing_known).cells →
+            refused cause.CircuitSize 0 ≡ facts_of w t
+        size_refused g =
+            let m : 4096 < whole_size (main_of t) = omega (arith, main-sized, min-le_right (size (main_of t)) 4097) in
+            rw (by_checks, scanned.0, lt-leb (whole_size (main_of t)) 4096 m)
 
-      pub all_passed : 6 + (get_or terms (last_of t) nothing_known).ins + (get_or terms (last_of t) nothing_known).cells ≤ 4096 →
-          Ok terms ≡ facts_of w t
-      all_passed g =
-          let m : whole_size (main_of t) ≤ 4096 = omega (arith, main-sized, min-le_right (size (main_of t)) 4097) in
-          rw (by_checks, ← h, scanned.0, le-leb (whole_size (main_of t)) 4096 m, scanned.1)
+        pub all_passed : 6 + (get_or terms (last_of t) nothing_known).ins + (get_or terms (last_of t) nothing_known).cells ≤ 4096 →
+            Ok terms ≡ facts_of w t
+        all_passed g =
+            let m : whole_size (main_of t) ≤ 4096 = omega (arith, main-sized, min-le_right (size (main_of t)) 4097) in
+            rw (by_checks, scanned.0, le-leb (whole_size (main_of t)) 4096 m, scanned.1)
 
 -- The checks in their order.
-pub ruleset in_order = (frame_refused, framed_in, scan_refused, main_few, size_refused, all_passed)
+pub ruleset in_order = (width_refused, length_refused, length_in, scan_refused, main_few, size_refused, all_passed)

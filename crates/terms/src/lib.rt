@@ -1,8 +1,7 @@
 // The checks 1 to 9 of a table, and a table that passed them, with what is known of each term.
 // docs/READING.md: "Term tables", "Refusal numbers".
 //
-//     check      `framed`, then `tables::scanned`, then the size of the whole circuit
-//     framed     1 and 2: the width and the length
+//     check      the width, the length, `tables::scanned`, and the size of the whole circuit
 //     Accepted   a table that passed, and what its terms are
 #![tactic(auto)]
 
@@ -13,9 +12,9 @@ ghost use Rattle.meaning.specs.Kinds.{kind_named};
 ghost use Rattle.meaning.specs.Counts.{ins, outs, size};
 ghost use Rattle.meaning.specs.Checks.{operand_tree};
 ghost use Rattle.meaning.specs.Answers.{facts_of};
-ghost use Rattle.terms.specs.Checked.{framed_of};
 
 use meaning::{Cause, Kind, Known, Refusal};
+use words::Width;
 
 // A table that passed every check at a width, with what is known of each term.
 #[derive(Clone, Copy)]
@@ -27,6 +26,14 @@ pub struct Accepted<'a> {
 }
 
 impl Accepted<'_> {
+    // How many bits its words have.
+    #[tactic(auto, using(crate::proofs::Facts::narrow))]
+    pub fn width(&self) -> Width
+        ensures { result.bits ≡ self.now.width }
+    {
+        Width { bits: self.width }
+    }
+
     // The main term: the last.
     #[tactic(auto, using(crate::proofs::Facts::some_terms))]
     pub fn main(&self) -> usize
@@ -119,26 +126,15 @@ fn length_fits(len: usize) -> bool
     1 <= len && len % 4 == 0 && len <= 1024
 }
 
-// 1 and 2: the width and the length are those of a table.
-#[tactic(auto, unfolding(crate::specs::Checked::framed_of))]
-fn framed(width: u32, table: &[u32]) -> Result<(), Refusal>
-    ensures { result ≡ framed_of width table.now }
-{
-    if !words::width_fits(width) {
-        return Err(Cause::Width.into());
-    }
-    if !length_fits(table.len()) {
-        return Err(Cause::TableLength.into());
-    }
-    Ok(())
-}
-
 // 1 to 9, and what is known of each term.
 #[tactic(auto, using(crate::proofs::Whole::in_order))]
 pub fn check(width: u32, table: &[u32]) -> Result<[Known; 256], Refusal>
     ensures { result ≡ facts_of width table.now }
 {
-    framed(width, table)?;
+    let width = Width::try_from(width)?;
+    if !length_fits(table.len()) {
+        return Err(Cause::TableLength.into());
+    }
     let terms = tables::scanned(width, table)?;
     let main = terms[table.len() / 4 - 1];
     if 6 + main.ins + main.cells > 4096 {

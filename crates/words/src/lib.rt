@@ -4,7 +4,8 @@
 // docs/READING.md: "Term tables".
 #![tactic(auto)]
 
-ghost use Rattle.std.specs.Prelude.{◌≡◌, ◌-◌, ◌%◌, ◌^◌, ◌≤◌, nat_lt};
+ghost use Rattle.std.specs.Prelude.{◌≡◌, ◌-◌, ◌%◌, ◌^◌, ◌≤◌, true, false, nat_lt, MatchResult};
+ghost use Rattle.meaning.specs.declared.Cause.TheVariants as cause;
 ghost use Rattle.meaning.specs.Choices.{all_below};
 ghost use Rattle.meaning.specs.Words.{
   sum,
@@ -13,8 +14,10 @@ ghost use Rattle.meaning.specs.Words.{
   shift_left,
   operation,
 };
-ghost use Rattle.meaning.specs.Checks.{width_fits};
+ghost use Rattle.meaning.specs.Checks.{width_fits, few_words};
 ghost use Rattle.words.specs.Operations.{operation_named};
+
+use meaning::Cause;
 
 // What operations there are: the kinds 13 to 19 read two words, the kinds 20 to 22 one.
 #[derive(Clone, Copy, Debug, PartialEq, Eq)]
@@ -58,98 +61,121 @@ pub fn width_fits(width: u32) -> bool
     (1..=32).contains(&width)
 }
 
-// How many words there are of a width: one past the largest.
-fn past(width: u32) -> u64
-    requires { width ≤ 32 }
-    ensures { result ≡ 2 ^ width }
+// Whether there are 1 to 16 words, as many as a term takes or gives.
+pub fn few_words(n: u32) -> bool
+    ensures { result ≡ few_words n }
 {
-    1 << width
+    (1..=16).contains(&n)
 }
 
-// The largest word of a width: all its bits.
-pub fn ones(width: u32) -> u32
-    requires { width ≤ 32 }
-    ensures { result ≡ 2 ^ width - 1 }
-{
-    (past(width) - 1) as u32
+// How many bits words have.
+#[derive(Clone, Copy)]
+pub struct Width {
+    pub bits: u32,
+    ghost narrow: { bits ≤ 32 },
 }
 
-// The low bits of a number, as many as the width has.
-#[tactic(auto, using(std::proofs::lemmas::Nat::and_mask))]
-fn reduced(width: u32, x: u32) -> u32
-    requires { width ≤ 32 }
-    ensures { result ≡ x % 2 ^ width }
-{
-    x & ones(width)
-}
+// 1: a width of 1 to 32 bits.
+impl TryFrom<u32> for Width {
+    type Error = Cause;
 
-// 13: the sum.
-#[tactic(auto, using(crate::proofs::Wrapping::reduce_wrapped))]
-fn add(width: u32, x: u32, y: u32) -> u32
-    requires { width ≤ 32 }
-    ensures { result ≡ sum width x y }
-{
-    reduced(width, x.wrapping_add(y))
-}
+    ghost try_from_gives = { λ bits result. MatchResult result
+        (λ width. (width.bits ≡ bits) × (width_fits bits ≡ true))
+        (λ error. (error ≡ cause.Width) × (width_fits bits ≡ false)) };
 
-// 14: the difference.
-#[tactic(auto, using(crate::proofs::Wrapping::difference_reduced))]
-fn subtract(width: u32, x: u32, y: u32) -> u32
-    requires { width ≤ 32 }
-    ensures { result ≡ difference width x y }
-{
-    reduced(width, x.wrapping_sub(y))
-}
-
-// 20: every bit of the width turned round.
-fn turned(width: u32, x: u32) -> u32
-    requires { width ≤ 32 }
-    ensures { result ≡ complement width x }
-{
-    ones(width) - reduced(width, x)
-}
-
-// 21: one place up, the top bit lost.
-#[tactic(auto, using(crate::proofs::Wrapping::reduce_wrapped))]
-fn up(width: u32, x: u32) -> u32
-    requires { width ≤ 32 }
-    ensures { result ≡ shift_left width x }
-{
-    reduced(width, x << 1)
-}
-
-// The operation of a kind on two words; from kind 20 on the second is not read.
-#[tactic(auto, unfolding(meaning::specs::Words::binary, meaning::specs::Words::unary))]
-pub fn operate(width: u32, kind: u32, x: u32, y: u32) -> u32
-    requires { width ≤ 32 }
-    ensures { result ≡ operation width kind x y }
-{
-    match Operation::from(kind) {
-        Operation::Add => add(width, x, y),
-        Operation::Subtract => subtract(width, x, y),
-        Operation::And => x & y,
-        Operation::Or => x | y,
-        Operation::Xor => x ^ y,
-        Operation::Equal => u32::from(x == y),
-        Operation::Less => u32::from(x < y),
-        Operation::Complement => turned(width, x),
-        Operation::ShiftLeft => up(width, x),
-        Operation::ShiftRight => x >> 1,
+    fn try_from(bits: u32) -> Result<Width, Cause> {
+        if width_fits(bits) {
+            Ok(Width { bits })
+        } else {
+            Err(Cause::Width)
+        }
     }
 }
 
-// Whether a number is a word of the width.
-pub fn fits(width: u32, x: u32) -> bool
-    requires { width ≤ 32 }
-    ensures { result ≡ nat_lt x (2 ^ width) }
-{
-    u64::from(x) < past(width)
-}
+impl Width {
+    // How many words there are: one past the largest.
+    fn past(self) -> u64
+        ensures { result ≡ 2 ^ self.bits }
+    {
+        1 << self.bits
+    }
 
-// Whether every number is a word of the width.
-pub fn all_fit(width: u32, words: &[u32]) -> bool
-    requires { width ≤ 32 }
-    ensures { result ≡ all_below (2 ^ width) words.now }
-{
-    words.iter().all(|x| fits(width, *x))
+    // The largest word: all its bits.
+    pub fn ones(self) -> u32
+        ensures { result ≡ 2 ^ self.bits - 1 }
+    {
+        (self.past() - 1) as u32
+    }
+
+    // The low bits of a number, as many as the width has.
+    #[tactic(auto, using(std::proofs::lemmas::Nat::and_mask))]
+    fn reduced(self, x: u32) -> u32
+        ensures { result ≡ x % 2 ^ self.bits }
+    {
+        x & self.ones()
+    }
+
+    // 13: the sum.
+    #[tactic(auto, using(crate::proofs::Wrapping::reduce_wrapped))]
+    fn add(self, x: u32, y: u32) -> u32
+        ensures { result ≡ sum self.bits x y }
+    {
+        self.reduced(x.wrapping_add(y))
+    }
+
+    // 14: the difference.
+    #[tactic(auto, using(crate::proofs::Wrapping::difference_reduced))]
+    fn subtract(self, x: u32, y: u32) -> u32
+        ensures { result ≡ difference self.bits x y }
+    {
+        self.reduced(x.wrapping_sub(y))
+    }
+
+    // 20: every bit of the width turned round.
+    fn turned(self, x: u32) -> u32
+        ensures { result ≡ complement self.bits x }
+    {
+        self.ones() - self.reduced(x)
+    }
+
+    // 21: one place up, the top bit lost.
+    #[tactic(auto, using(crate::proofs::Wrapping::reduce_wrapped))]
+    fn up(self, x: u32) -> u32
+        ensures { result ≡ shift_left self.bits x }
+    {
+        self.reduced(x << 1)
+    }
+
+    // The operation of a kind on two words; from kind 20 on the second is not read.
+    #[tactic(auto, unfolding(meaning::specs::Words::binary, meaning::specs::Words::unary))]
+    pub fn operate(self, kind: u32, x: u32, y: u32) -> u32
+        ensures { result ≡ operation self.bits kind x y }
+    {
+        match Operation::from(kind) {
+            Operation::Add => self.add(x, y),
+            Operation::Subtract => self.subtract(x, y),
+            Operation::And => x & y,
+            Operation::Or => x | y,
+            Operation::Xor => x ^ y,
+            Operation::Equal => u32::from(x == y),
+            Operation::Less => u32::from(x < y),
+            Operation::Complement => self.turned(x),
+            Operation::ShiftLeft => self.up(x),
+            Operation::ShiftRight => x >> 1,
+        }
+    }
+
+    // Whether a number is a word.
+    pub fn fits(self, x: u32) -> bool
+        ensures { result ≡ nat_lt x (2 ^ self.bits) }
+    {
+        u64::from(x) < self.past()
+    }
+
+    // Whether every number is a word.
+    pub fn all_fit(self, words: &[u32]) -> bool
+        ensures { result ≡ all_below (2 ^ self.bits) words.now }
+    {
+        words.iter().all(|x| self.fits(*x))
+    }
 }

@@ -6,4 +6,4 @@ use Rattle.cells.proofs.Scan.{Going}
 use Rattle.cells.proofs.check.Given as goal
 
 abbrev pub invariant-loop-n : goal.invariant-loop-n
-invariant-loop-n l = Going (cell_refusal l.width l.netlist) (cell_count l.netlist) passed l.n
+invariant-loop-n l = Going (cell_refusal l.width.bits l.netlist) (cell_count l.netlist) passed l.n

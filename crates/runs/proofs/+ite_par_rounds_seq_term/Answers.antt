@@ -4,7 +4,7 @@ use Rattle.std.proofs.Common.{◌∙◌, arith}
 use Rattle.leaves.proofs.Left.{leaves-as}
 use Rattle.runs.proofs.Turns.{stopped, gave, seq-stops, par-stops-first, ite-stops, rec-stops, seq-goes, par-stops-second, par-ends}
 use Rattle.runs.proofs.Turns.{ite-then, ite-else, rec-last, rec-stops-body, rec-stops-fed, rec-goes}
-use Rattle.runs.proofs.Parts.{judged, leaf-row, leaf-small, leaf-from, seq-tree, par-tree, ite-tree, rec-tree, typed, by_kind}
+use Rattle.runs.proofs.Parts.{leaf-row, leaf-small, leaf-from, seq-tree, par-tree, ite-tree, rec-tree, typed, by_kind}
 use Rattle.runs.proofs.+ite_par_rounds_seq_term.Goals as goal
 
 pub seq-returns-in_err-end : goal.seq-returns-in_err-end
@@ -126,10 +126,10 @@ pub term-leaf-requires : goal.term-leaf-requires
 term-leaf-requires t c =
     let k = c.in_default in
     let r = leaf-row c.args.table.now c.requires.0 c.kind.ensures k.not-Seq k.not-Par k.not-Ite k.not-Rec in
-    ((judged c.args.table.now).wide.1, leaf-small r c.number-kind.ensures c.number-b.ensures, c.requires.1)
+    (leaf-small r c.number-kind.ensures c.number-b.ensures, c.requires.1)
 
 pub term-returns-in_default : goal.term-returns-in_default
 term-returns-in_default t c =
     let k = c.in_default in
     let r = leaf-row c.args.table.now c.requires.0 c.kind.ensures k.not-Seq k.not-Par k.not-Ite k.not-Rec in
-    leaves-as (leaf-from r c.number-kind.ensures c.number-b.ensures _ _ _) c.leaf.ensures
+    leaves-as (leaf-from r c.number-kind.ensures c.number-b.ensures c.width.ensures _ _ _) c.leaf.ensures

@@ -8,7 +8,7 @@ pub loop-k-init : goal.loop-k-init
 loop-k-init c = starts _ _
 
 pub judged-requires : goal.judged-requires
-judged-requires c = (c.requires.0, ready c.loop-k.invariant (omega arith) c.requires.1)
+judged-requires c = ready c.loop-k.invariant (omega arith) c.requires
 
 pub returns-in_err-terms : goal.returns-in_err-terms
 returns-in_err-terms c =
@@ -21,7 +21,7 @@ returns-in_err-terms c =
 pub loop-k-preserved : goal.loop-k-preserved
 loop-k-preserved c =
     let gives : c.judged.result ≡ Ok c.in_ok-terms.field-0 = search rules in
-    goes_on c.loop-k.invariant (omega arith) c.requires.1 c.in_ok-terms.field-0 (sym c.judged.ensures ∙ gives)
+    goes_on c.loop-k.invariant (omega arith) c.requires c.in_ok-terms.field-0 (sym c.judged.ensures ∙ gives)
 
 pub returns : goal.returns
 returns c = ends c.loop-k.invariant (omega arith)

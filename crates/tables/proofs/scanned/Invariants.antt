@@ -3,4 +3,4 @@ use Rattle.tables.proofs.Scan.{Going}
 use Rattle.tables.proofs.scanned.Given as goal
 
 abbrev pub invariant-loop-k : goal.invariant-loop-k
-invariant-loop-k l = Going l.width l.table l.terms l.k
+invariant-loop-k l = Going l.width.bits l.table l.terms l.k

@@ -5,4 +5,4 @@ use Rattle.cycles.proofs.Cycle.gate.Goals as goal
 pub returns : goal.returns
 returns c =
     let s = c.args.self.now in
-    rw (c.from.ensures, c.kind.ensures) (reads s.width s.netlist.now _ c.args.n s.checked s.named c.requires)
+    rw (c.from.ensures, c.kind.ensures) (reads s.width.bits s.netlist.now _ c.args.n s.checked s.named c.requires)

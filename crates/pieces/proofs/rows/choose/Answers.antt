@@ -8,5 +8,5 @@ pub returns : goal.returns
 returns c =
     let xs = c.args.first.now in
     let ys = c.args.second.now in
-    rw (choices-row c.args.n c.args.bit xs ys (omega arith) (omega arith)) at
+    rw (choices-row c.args.bit xs ys (omega arith)) at
     (c.place_each.ensures (λ j. choice_cell c.args.bit (get_or xs j 0) (get_or ys j 0)) (λ j x h p. search rules))

@@ -7,5 +7,5 @@ use Rattle.pieces.proofs.rows.keep.Given as goal
 
 abbrev pub invariant-loop-j : goal.invariant-loop-j
 invariant-loop-j l =
-    let xs = take l.j (take l.n l.words) in
+    let xs = take l.j l.words in
     (l.netlist ≡ written l.initial.netlist l.at (keeps l.at l.start xs)) × (l.row ≡ padded 16 (kept l.at xs))

@@ -1,4 +1,4 @@
--- A checked netlist's width is at most 32, and it has at most 4,096 cells.
+-- A checked netlist has at most 4,096 cells.
 use Rattle.std.proofs.Common.{sym, arith}
 use Rattle.circuit.proofs.Checked.{checked}
 use Rattle.simulator.proofs.verdicts.step.Goals as goal
@@ -6,7 +6,4 @@ use Rattle.simulator.proofs.verdicts.step.Goals as goal
 pub wires_fit-requires : goal.wires_fit-requires
 wires_fit-requires c =
     let k = checked _ c.args.netlist.now (sym c.in_ok-check.ensures) in
-    (k.wide.1, k.some.1, omega arith)
-
-pub inputs-requires : goal.inputs-requires
-inputs-requires c = (checked _ c.args.netlist.now (sym c.in_ok-check.ensures)).wide.1
+    (k.some.1, omega arith)

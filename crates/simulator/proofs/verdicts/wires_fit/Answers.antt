@@ -9,6 +9,6 @@ use Rattle.simulator.proofs.verdicts.wires_fit.Goals as goal
 pub returns-in_err-map_err : goal.returns-in_err-map_err
 returns-in_err-map_err c =
     let net = c.args.netlist.now in
-    let stops = going-stop (wire_refusal c.args.width net c.args.wires.now) (cell_count net) passed c.loop-n.n c.loop-n.invariant
+    let stops = going-stop (wire_refusal c.args.width.bits net c.args.wires.now) (cell_count net) passed c.loop-n.n c.loop-n.invariant
     (omega (arith, c.loop-n-test.true, c.count-n-end.ensures)) in
     search rules

@@ -6,4 +6,4 @@ use Rattle.cells.proofs.Scan.{Going}
 use Rattle.simulator.proofs.verdicts.wires_fit.Given as goal
 
 abbrev pub invariant-loop-n : goal.invariant-loop-n
-invariant-loop-n l = Going (wire_refusal l.width l.netlist l.wires) (cell_count l.netlist) passed l.n
+invariant-loop-n l = Going (wire_refusal l.width.bits l.netlist l.wires) (cell_count l.netlist) passed l.n
