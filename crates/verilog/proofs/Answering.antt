@@ -16,6 +16,8 @@ use Rattle.meaning.proofs.Tests.{both}
 use Rattle.circuit.specs.Cells.{cell_count}
 use Rattle.circuit.specs.Netlists.{netlist_verdict}
 use Rattle.circuit.proofs.Checked.{checked}
+use Rattle.spelling.specs.Pieces.{placed}
+use Rattle.spelling.proofs.Placing.{at_front}
 use Rattle.ports.specs.Interface.{ports_fit}
 use Rattle.verilog.specs.Texts.{text_of}
 use Rattle.verilog.specs.Writing.{write_verdict, written_of, text_after}
@@ -52,4 +54,8 @@ module _ (w : ℕ) (net : List ℕ) (i o d : ℕ) (outs : List ℕ) where
       let b = both (few_words o) _ a.1 in
       (k.wide.0, k.some.1, leb-true i 16 (both (leb 1 i) _ a.0).1, leb-true o 16 (both (leb 1 o) _ b.0).1)
 
-pub ruleset by_steps = (in_order, answered, left)
+-- A text that fits stands at the front.
+pub placed-front : (l a : List ℕ) → length a ≤ length l → placed l 0 a ≡ a ++ drop (length a) l
+placed-front l a h = at_front (record { next_is = refl; holds = refl }) h
+
+pub ruleset by_steps = (in_order, answered, left, placed-front)

@@ -1,4 +1,5 @@
 -- What is shown of the definitions.
 pub mod Cases
+pub mod Joining
 pub mod Answering
 pub mod Unique

@@ -29,6 +29,7 @@ pub struct Design<'a> {
     ghost fits: { (0 < width) × (cell_count netlist.now ≤ 4096) × (i ≤ 16) × (o ≤ 16) },
 }
 
+#[tactic(auto, using(crate::proofs::Joining::joining))]
 impl Design<'_> {
     // Writes a line of no port's own: X is the wire x.
     fn line(&self, text: &mut [u8], at: usize, template: &[u8], x: u32) -> usize
@@ -127,6 +128,7 @@ impl Design<'_> {
     }
 
     // Writes the whole text.
+    #[tactic(auto, using(crate::proofs::Joining::joining), unfolding(crate::specs::Texts::text_of))]
     pub fn whole(&self, text: &mut [u8]) -> usize
         ensures wrote { Wrote text.old 0 (text_of self.now.width self.now.netlist.now self.now.i self.now.o self.now.done self.now.outs.now) result text.new }
         ensures upper_bound { result < 2 ^ 32 }
