@@ -65,7 +65,8 @@ pub fn evaluated_numbers(evaluated: Result<Option<Answer>, Refusal>) -> [u32; 21
     }
 }
 
-// The compiler's answer: refusal number, place, cells, i, o, the done wire, and 16 output wires.
+// The compiler's answer: refusal number and place, the counts of cells, inputs and outputs, the
+// done wire, then the output wires.
 pub fn compiled_numbers(compiled: Result<Compiled, Refusal>) -> [u32; 22]
     ensures { result ≡ compiled_numbers compiled }
 {
