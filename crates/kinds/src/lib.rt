@@ -2,8 +2,8 @@
 // docs/READING.md: "Term tables", "Refusal numbers".
 #![tactic(auto)]
 
-ghost use Rattle.std.specs.Prelude.{◌≡◌, Err};
-ghost use Rattle.meaning.specs.Choices.{pick};
+ghost use Rattle.std.specs.Prelude.{◌≡◌, leb, Err};
+ghost use Rattle.meaning.specs.Choices.{pick, and};
 ghost use Rattle.meaning.specs.Refusals.{passed};
 ghost use Rattle.meaning.specs.Checks.{known_kind, operands_of};
 ghost use Rattle.kinds.specs.Early.{early_of};
@@ -18,6 +18,13 @@ fn known(kind: u32) -> bool
     matches!(kind, 1..=4 | 9 | 12..=22)
 }
 
+// 13 to 22: the kind is an operation on words. Most terms are, and this tells it by one compare.
+fn operates(kind: u32) -> bool
+    ensures { result ≡ and (leb 13 kind) (leb kind 22) }
+{
+    (13..=22).contains(&kind)
+}
+
 // How many of a, b, c name terms.
 #[tactic(auto, unfolding(meaning::specs::Checks::operands_of))]
 pub fn operands(kind: u32) -> usize
@@ -30,20 +37,23 @@ pub fn operands(kind: u32) -> usize
     }
 }
 
-// A check passes where what it asks holds, and is refused for its cause where not.
-fn require(holds: bool, cause: Cause) -> Result<(), Cause>
-    ensures { result ≡ pick holds passed (Err cause) }
+// A check passes where its condition holds, and is refused for its cause where not.
+fn require(condition: bool, cause: Cause) -> Result<(), Cause>
+    ensures { result ≡ pick condition passed (Err cause) }
 {
-    if holds { Ok(()) } else { Err(cause) }
+    if condition { Ok(()) } else { Err(cause) }
 }
 
 // The first refusal of 3 to 5 that a term of these numbers gives, if one does.
 // 4: the unused numbers of a term are 0.
 // 5: m is 1 to 16; a Const's v is a word, a Field's k is below m.
-#[tactic(auto, unfolding(crate::specs::Early::early_of, meaning::specs::Checks::used_of, meaning::specs::Checks::operands_of))]
+#[tactic(auto, unfolding(meaning::specs::Checks::used_of, meaning::specs::Checks::operands_of))]
 pub fn early(width: Width, kind: u32, a: u32, b: u32, c: u32) -> Result<(), Cause>
     ensures { result ≡ early_of width.bits kind a b c }
 {
+    if operates(kind) {
+        return require(a == 0 && b == 0 && c == 0, Cause::UnusedNumber);
+    }
     match Kind::from(kind) {
         Kind::Seq | Kind::Par => require(c == 0, Cause::UnusedNumber),
         Kind::Ite | Kind::Rec => Ok(()),
@@ -51,11 +61,10 @@ pub fn early(width: Width, kind: u32, a: u32, b: u32, c: u32) -> Result<(), Caus
             require(c == 0, Cause::UnusedNumber)?;
             require(words::few_words(a) && width.fits(b), Cause::TermValue)
         }
-        _ if !known(kind) => Err(Cause::TermKind),
-        Kind::Field => {
+        Kind::Field if known(kind) => {
             require(c == 0, Cause::UnusedNumber)?;
             require(words::few_words(a) && b < a, Cause::TermValue)
         }
-        Kind::Binary | Kind::Unary => require(a == 0 && b == 0 && c == 0, Cause::UnusedNumber),
+        _ => Err(Cause::TermKind),
     }
 }

@@ -25,7 +25,6 @@ use Rattle.meaning.proofs.Tests.{split, by-test}
 use Rattle.meaning.proofs.Verdicts.{scan-passes}
 use Rattle.meaning.proofs.Decoded.{tree-seq, tree-par, tree-ite, tree-rec, tree-leaf-from}
 use Rattle.meaning.proofs.Accepted.{Fits, seq-fits, par-fits, ite-fits, rec-fits, const_fits, field_fits, op_fits, fits}
-use Rattle.kinds.specs.Early.{early_of}
 use Rattle.kinds.proofs.Joining.{seq_operands, par_operands, ite_operands, rec_operands}
 use Rattle.tables.specs.Readings.{early_at, lower_operands_at, shape_of, Ready}
 use Rattle.tables.specs.Scans.{Scanned}
@@ -54,7 +53,7 @@ steps false b c d e f known = refl
 
 pub judged_by : (w : ℕ) (t : List ℕ) (k : ℕ) →
     refusal_at w t k ≡ on_verdict (early_at w t k) (on_verdict (lower_operands_at t k) (shape_check (shape_of t k)) Err) Err
-unfolding refusal_at early_of shape_of
+unfolding refusal_at shape_of
 judged_by w t k =
     steps (known_kind (kind_of t k)) (unused_zero t k) (values_fit w t k) (operands_below t k (operands_of (kind_of t k)))
     (counts_fit t k) (par_small t k) (known_of (tree t k))
