@@ -1,6 +1,6 @@
 -- Compiling: the whole circuit of a term, and what the compiler answers and writes. Definitions only.
 -- docs/READING.md: "Cells".
--- Read after: `Blocks`, meaning's `Answers`. Assumes nothing.
+-- Read after: `Blocks`, meaning's `Refusals`. Assumes nothing.
 use Rattle.std.specs.Prelude.{ℕ, zero, suc, ◌*◌, List, [], ◌∷◌, ◌++◌, replicate, leb, length, drop, Result, Ok, Err}
 use Rattle.meaning.specs.declared.Cause.TheVariants as cause
 use Rattle.meaning.specs.declared.Refusal.{Refusal}
@@ -61,7 +61,8 @@ netlist_after w t buffer =
     (netlist_of (main_of t) ++ drop (length (netlist_of (main_of t))) buffer)
     (λ r. buffer)
 
--- Its 22 numbers: refusal number, place, cells, i, o, the done wire, and 16 output wires.
+-- Its 22 numbers: two zeros, how many cells there are, how many input and output words, the done wire, and the array; of a refusal
+-- its two numbers, and zeros.
 abbrev pub compiled_numbers : Result Compiled Refusal → List ℕ
 compiled_numbers (Ok c) = 0 ∷ 0 ∷ c.cells ∷ c.ins ∷ c.outs ∷ c.done ∷ c.wires
 compiled_numbers (Err r) = refusal_numbers r ++ replicate 20 0

@@ -9,6 +9,7 @@ use Rattle.meaning.specs.Choices.{pick}
 use Rattle.circuit.specs.Cells.{Cell, cell, load_cell, not_cell, and_cell, or_cell, low_register, high_register, nonzero_cell}
 use Rattle.circuit.specs.Cells.{input_cell, constant_cell, word_register, choice_cell, copy_cell}
 
+-- What the number of a cell's kind names. Numbers of no kind name one too: refusal 13 judges them.
 abbrev pub gate_named : ℕ → Gate
 gate_named k =
     pick (eqb k 0) gate.Load
@@ -25,6 +26,7 @@ gate_named k =
     (pick (eqb k 12) gate.Copy
     (pick (ltb k 20) gate.Binary gate.Unary))))))))))))
 
+-- The cell, as numbers, that a value of the code stands for.
 abbrev pub cell_of : Written → Cell
 cell_of written.Load = load_cell
 cell_of (written.Not x) = not_cell x

@@ -7,30 +7,22 @@ use native.Mathlib.Omega.{arith}
 use lib.Seq.{length-take-le}
 use Rattle.meaning.specs.declared.Kind.{Kind}
 use Rattle.meaning.specs.declared.Kind.TheVariants as kind
+use Rattle.meaning.specs.declared.Known.{Known}
 use Rattle.meaning.specs.Kinds.{kind_named}
 use Rattle.meaning.specs.Terms.{number_of, kind_of, count, last_of, leaf, seq, par, ite, rec, tree, main_of}
 use Rattle.meaning.specs.Counts.{ins, outs, size, whole_size}
 use Rattle.meaning.specs.Checks.{operand_tree}
-use Rattle.meaning.proofs.Accepted as meaning
+use Rattle.meaning.proofs.Accepted.{Accepted}
 use Rattle.meaning.proofs.Typed.{Well, well, ins-few, outs-few}
 use Rattle.meaning.proofs.Rows.{rows}
-use Rattle.terms.specs.declared.Accepted.{Accepted}
-use Rattle.compiler.specs.Building.{ForkReady, fork_size}
-use Rattle.terms.proofs.Facts as facts
+use Rattle.terms.specs.Judged.{Passing}
+use Rattle.terms.proofs.Facts.{widest}
 use Rattle.terms.proofs.Parts.{Parts, parts as parts_of}
+use Rattle.compiler.specs.Building.{ForkReady, fork_size}
 use Rattle.compiler.proofs.Typing.{leaf-few, par-shares, Branches, ite-branches, rec-branches}
 
-module _ (table : Accepted) where
-  abbrev w : ℕ
-  w = table.width
-
-  abbrev t : List ℕ
-  t = table.numbers.now
-
-  -- The table is accepted, so its terms are well typed, and a kind says what its term is made of.
-  judged : meaning.Accepted w t
-  judged = facts.table w t table.terms.now table.judged
-
+-- Its terms are well typed, and a kind says what its term is made of.
+module _ {w : ℕ} {t : List ℕ} (judged : Accepted w t) where
   module _ (k : ℕ) (there : k < count t) where
     typed : Well w (tree t k)
     typed = well w t judged k there
@@ -68,8 +60,8 @@ module _ (table : Accepted) where
         (r.decoded, rw r.decoded at typed)
 
     -- The operands of a fork.
-    pub fork-tree : {net : List ℕ} {p e f g : ℕ} → ForkReady t k net p → e ≡ number_of t k 1 → f ≡ number_of t k 2 →
-        g ≡ number_of t k 3 → Branches w (tree t e) (tree t f) (tree t g)
+    pub fork-tree : {known : List Known} {net : List ℕ} {p e f g : ℕ} → ForkReady t known k net p → e ≡ number_of t k 1 →
+        f ≡ number_of t k 2 → g ≡ number_of t k 3 → Branches w (tree t e) (tree t f) (tree t g)
     fork-tree r ee ef eg = rw (ee, ef, eg) record {
       test = well w t judged _ (omega (arith, r.lower));
       yes = well w t judged _ (omega (arith, r.lower));
@@ -78,24 +70,30 @@ module _ (table : Accepted) where
       same_g = r.same.1;
     }
 
+-- What the search is given: all that it reads of a width is that some width accepts the table.
+module _ (t : List ℕ) (somewhere : ∥ Passing t ∥₁) where
+  abbrev judged : Accepted 32 t
+  judged = widest t somewhere
+
+  module _ (k : ℕ) (there : k < count t) where
     -- Kind by kind, the size by the operands', which are lower terms, how few words there are, and which operands take the same.
     pub seq-parts : kind_named (kind_of t k) ≡ kind.Seq → (size (tree t k) ≡ size (operand_tree t k 1) + size (operand_tree t k 2) + 4) ×
         (number_of t k 1 < k) × (number_of t k 2 < k)
-    seq-parts e = let p = of-kind kind.Seq e in (ap size p.2, p.0, p.1)
+    seq-parts e = let p = of-kind judged k there kind.Seq e in (ap size p.2, p.0, p.1)
 
     pub par-parts : kind_named (kind_of t k) ≡ kind.Par → (size (tree t k) ≡ size (operand_tree t k 1) + size (operand_tree t k 2) + 1) ×
         (number_of t k 1 < k) × (number_of t k 2 < k) × (outs (operand_tree t k 1) + outs (operand_tree t k 2) ≤ 16)
-    par-parts e = let p = of-kind kind.Par e in (ap size p.2, p.0, p.1, (par-shares (rw p.2 at typed)).3)
+    par-parts e = let p = of-kind judged k there kind.Par e in (ap size p.2, p.0, p.1, (par-shares (rw p.2 at (typed judged k there))).3)
 
     pub ite-parts : kind_named (kind_of t k) ≡ kind.Ite → (size (tree t k) ≡ 2 * ins (tree t k) + fork_size t k + 2 + outs (tree t k)) ×
         (ins (tree t k) ≤ 16) × (outs (tree t k) ≤ 16) × (number_of t k 1 < k) × (number_of t k 2 < k) × (number_of t k 3 < k) ×
         (ins (operand_tree t k 1) ≡ ins (operand_tree t k 2)) × (ins (operand_tree t k 1) ≡ ins (operand_tree t k 3))
     ite-parts e =
-        let p = of-kind kind.Ite e in
-        let b = ite-branches (ite-tree e).1 in (
+        let p = of-kind judged k there kind.Ite e in
+        let b = ite-branches (ite-tree judged k there e).1 in (
           omega (arith, ap size p.3, ap ins p.3, ap outs p.3),
-          (ins-few w t judged k there).1,
-          (outs-few w t judged k there).1,
+          (ins-few 32 t judged k there).1,
+          (outs-few 32 t judged k there).1,
           p.0,
           p.1,
           p.2,
@@ -107,18 +105,18 @@ module _ (table : Accepted) where
         (ins (tree t k) ≤ 16) × (number_of t k 1 < k) × (number_of t k 2 < k) × (number_of t k 3 < k) ×
         (ins (operand_tree t k 1) ≡ ins (operand_tree t k 2)) × (ins (operand_tree t k 1) ≡ ins (operand_tree t k 3))
     rec-parts e =
-        let p = of-kind kind.Rec e in
-        let b = rec-branches (rec-tree e).1 in
-        (omega (arith, ap size p.3, ap ins p.3), (ins-few w t judged k there).1, p.0, p.1, p.2, b.same_f, b.same_g)
+        let p = of-kind judged k there kind.Rec e in
+        let b = rec-branches (rec-tree judged k there e).1 in
+        (omega (arith, ap size p.3, ap ins p.3), (ins-few 32 t judged k there).1, p.0, p.1, p.2, b.same_f, b.same_g)
 
     pub leaf-parts : (kind_named (kind_of t k) ≡ kind.Seq → ⊥) → (kind_named (kind_of t k) ≡ kind.Par → ⊥) →
         (kind_named (kind_of t k) ≡ kind.Ite → ⊥) → (kind_named (kind_of t k) ≡ kind.Rec → ⊥) →
         (size (tree t k) ≡ 4) × (kind_of t k < 13 → (kind_of t k ≡ 9 → ⊥) → number_of t k 2 < 16)
-    leaf-parts a b c d = let z = leaf-tree refl a b c d in (ap size z.0, leaf-few z.1)
+    leaf-parts a b c d = let z = leaf-tree judged k there refl a b c d in (ap size z.0, leaf-few z.1)
 
   -- The main term, and the cells of its circuit.
   pub main-few : (k : ℕ) → k ≡ last_of t →
       (ins (tree t k) ≤ 16) × (whole_size (tree t k) ≤ 4096) × (whole_size (main_of t) ≡ whole_size (tree t k))
-  main-few k e = let s = judged.some in rw e ((ins-few w t judged (last_of t) (omega arith)).1, judged.small, refl)
+  main-few k e = let s = judged.some in rw e ((ins-few 32 t judged (last_of t) (omega arith)).1, judged.small, refl)
 
   pub ruleset parts = (seq-parts, par-parts, ite-parts, rec-parts, leaf-parts, main-few, length-take-le)

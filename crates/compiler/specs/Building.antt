@@ -1,12 +1,14 @@
 -- Building: what the block of a term needs before it is emitted, and what stands in the netlist afterwards. Definitions only.
--- Read after: `Writing`, circuit's `Blocks`. Assumes nothing.
+-- Read after: `Writing`, circuit's `Blocks`, terms' `Judged`. Assumes nothing.
 use Rattle.std.specs.Prelude.{ℕ, ◌+◌, ◌<◌, ◌≡◌, List, ◌++◌, length, take}
 use Rattle.meaning.specs.Choices.{padded}
 use Rattle.meaning.specs.declared.Kind.{Kind}
+use Rattle.meaning.specs.declared.Known.{Known}
 use Rattle.meaning.specs.Kinds.{kind_named}
 use Rattle.meaning.specs.Terms.{number_of, kind_of, count, Term, tree}
 use Rattle.meaning.specs.Counts.{ins, size}
 use Rattle.meaning.specs.Checks.{operand_tree}
+use Rattle.terms.specs.Judged.{Takes}
 use Rattle.circuit.specs.Cells.{Cell}
 use Rattle.circuit.specs.Pieces.{◌after◌, Block, Emitter, gates}
 use Rattle.circuit.specs.Blocks.{emit}
@@ -14,13 +16,15 @@ use Rattle.pieces.specs.declared.leaves.Made.{Made}
 use Rattle.pieces.specs.declared.seams.Forked.{Forked}
 use Rattle.pieces.specs.Writing.{written, Room}
 
--- Term k of a table can be emitted at p; and one of kind K can.
-pub record Ready (t : List ℕ) (k : ℕ) (net : List ℕ) (p : ℕ) : Type 0 where
+-- Term k of a table, of whose terms an array has how many words they take, can be emitted at p; and one of kind K can.
+pub record Ready (t : List ℕ) (known : List Known) (k : ℕ) (net : List ℕ) (p : ℕ) : Type 0 where
+  pub takes : Takes t known
   pub there : k < count t
   pub room : Room net p (size (tree t k))
 
-pub record ReadyAs (K : Kind) (t : List ℕ) (k : ℕ) (net : List ℕ) (p : ℕ) : Type 0 where
+pub record ReadyAs (K : Kind) (t : List ℕ) (known : List Known) (k : ℕ) (net : List ℕ) (p : ℕ) : Type 0 where
   pub kind : kind_named (kind_of t k) ≡ K
+  pub takes : Takes t known
   pub there : k < count t
   pub room : Room net p (size (tree t k))
 
@@ -61,7 +65,8 @@ abbrev pub fork_size : List ℕ → ℕ → ℕ
 fork_size t k = size (operand_tree t k 1) + 7 + size (operand_tree t k 2) + size (operand_tree t k 3)
 
 -- They, lower terms that take the same words, can be emitted so from p on.
-pub record ForkReady (t : List ℕ) (k : ℕ) (net : List ℕ) (p : ℕ) : Type 0 where
+pub record ForkReady (t : List ℕ) (known : List Known) (k : ℕ) (net : List ℕ) (p : ℕ) : Type 0 where
+  pub takes : Takes t known
   pub there : k < count t
   pub lower : (number_of t k 1 < k) × (number_of t k 2 < k) × (number_of t k 3 < k)
   pub same : (ins (operand_tree t k 1) ≡ ins (operand_tree t k 2)) × (ins (operand_tree t k 1) ≡ ins (operand_tree t k 3))

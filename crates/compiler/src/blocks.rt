@@ -30,7 +30,7 @@ fn seq(
     start: u32,
     words: &mut [u32; 16],
 ) -> Made
-    requires { ReadyAs Kind.Seq table.now.numbers.now k netlist.old at }
+    requires { ReadyAs Kind.Seq table.now.numbers.now table.now.terms.now k netlist.old at }
     ensures { Emits (tree table.now.numbers.now k) at start words.old
         netlist.old netlist.new words.new result }
 {
@@ -58,7 +58,7 @@ fn par(
     start: u32,
     words: &mut [u32; 16],
 ) -> Made
-    requires { ReadyAs Kind.Par table.now.numbers.now k netlist.old at }
+    requires { ReadyAs Kind.Par table.now.numbers.now table.now.terms.now k netlist.old at }
     ensures { Emits (tree table.now.numbers.now k) at start words.old
         netlist.old netlist.new words.new result }
 {
@@ -88,7 +88,7 @@ fn fork(
     live: &mut [u32; 16],
     kept: &mut [u32; 16],
 ) -> Forked
-    requires { ForkReady table.now.numbers.now k netlist.old at }
+    requires { ForkReady table.now.numbers.now table.now.terms.now k netlist.old at }
     ensures { Forks (fork_at table.now.numbers.now k at start live.old kept.old) at
         (fork_size table.now.numbers.now k) netlist.old netlist.new live.new kept.new result }
 {
@@ -121,7 +121,7 @@ fn ite(
     start: u32,
     words: &mut [u32; 16],
 ) -> Made
-    requires { ReadyAs Kind.Ite table.now.numbers.now k netlist.old at }
+    requires { ReadyAs Kind.Ite table.now.numbers.now table.now.terms.now k netlist.old at }
     ensures { Emits (tree table.now.numbers.now k) at start words.old
         netlist.old netlist.new words.new result }
 {
@@ -143,7 +143,7 @@ fn rec(
     start: u32,
     words: &mut [u32; 16],
 ) -> Made
-    requires { ReadyAs Kind.Rec table.now.numbers.now k netlist.old at }
+    requires { ReadyAs Kind.Rec table.now.numbers.now table.now.terms.now k netlist.old at }
     ensures { Emits (tree table.now.numbers.now k) at start words.old
         netlist.old netlist.new words.new result }
 {
@@ -165,7 +165,7 @@ pub fn emit(
     start: u32,
     words: &mut [u32; 16],
 ) -> Made
-    requires { Ready table.now.numbers.now k netlist.old at }
+    requires { Ready table.now.numbers.now table.now.terms.now k netlist.old at }
     ensures { Emits (tree table.now.numbers.now k) at start words.old
         netlist.old netlist.new words.new result }
 {

@@ -13,6 +13,7 @@ pub mod blocks;
 ghost use Rattle.std.specs.Prelude.{◌≡◌, ◌≤◌, length};
 ghost use Rattle.meaning.specs.Terms.{main_of};
 ghost use Rattle.meaning.specs.Counts.{whole_size};
+ghost use Rattle.terms.specs.Judged.{Takes};
 ghost use Rattle.circuit.specs.Compiling.{whole_cells, emitted, compiled_of, netlist_after};
 ghost use Rattle.pieces.specs.Writing.{written, Room};
 
@@ -24,6 +25,7 @@ use terms::Accepted;
 
 // The cells of the whole circuit of the main term.
 fn size(table: &Accepted) -> u32
+    requires { Takes table.now.numbers.now table.now.terms.now }
     ensures { (result ≡ whole_size (main_of table.now.numbers.now)) × (result ≤ 4096) }
 {
     let main = table.main();
@@ -33,7 +35,8 @@ fn size(table: &Accepted) -> u32
 // The whole circuit of the main term: load; the inputs; the main block behind them and five cells
 // more, which are written last.
 fn whole(table: &Accepted, netlist: &mut [u32]) -> Compiled
-    requires { Room netlist.old 0 (whole_size (main_of table.now.numbers.now)) }
+    requires { (Takes table.now.numbers.now table.now.terms.now)
+        × (Room netlist.old 0 (whole_size (main_of table.now.numbers.now))) }
     ensures { (result ≡ emitted (main_of table.now.numbers.now))
         × (netlist.new
         ≡ written netlist.old 0 (whole_cells (main_of table.now.numbers.now))) }
@@ -57,6 +60,7 @@ fn whole(table: &Accepted, netlist: &mut [u32]) -> Compiled
 
 // The netlist of a table at a width, from the first number of the lent memory on; past it the
 // memory stays.
+#[tactic(auto, using(crate::proofs::Terms::parts, terms::proofs::Facts::from_facts))]
 pub fn compile(width: u32, table: &[u32], netlist: &mut [u32]) -> Result<Compiled, Refusal>
     ensures { (result ≡ compiled_of width table.now (length netlist.old))
         × (netlist.new ≡ netlist_after width table.now netlist.old) }

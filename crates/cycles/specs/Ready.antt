@@ -24,6 +24,6 @@ abbrev pub register_shows : Option (Bor (List ℕ)) → ℕ → ℕ → ℕ
 register_shows None start x = start
 register_shows (Some earlier) start x = at earlier.now x
 
--- What all registers hold, where those of words start 0.
-abbrev pub held_by : Option (Bor (List ℕ)) → Held
-held_by before n k x = register_shows before (starting (λ m. 0) n k x) x
+-- What all registers hold, where those of words start at `start`.
+abbrev pub held_by : Option (Bor (List ℕ)) → ℕ → Held
+held_by before start n k x = register_shows before (starting (λ m. start) n k x) x

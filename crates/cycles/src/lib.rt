@@ -18,12 +18,14 @@ use circuit::Gate;
 use words::Width;
 
 // What a cycle's wires depend on: a checked netlist and its width, load, the input words, and the
-// wires of the cycle before, where there is one.
+// wires of the cycle before, where there is one. Where there is none, registers of words show
+// `start`.
 #[derive(Clone, Copy)]
 struct Cycle<'a> {
     width: Width,
     netlist: &'a [u32],
     before: Option<&'a [u32]>,
+    start: u32,
     load: bool,
     words: &'a [u32],
     ghost checked: { netlist_verdict width.bits netlist.now ≡ passed },
@@ -75,7 +77,7 @@ impl Cycle<'_> {
         requires { (n < cell_count self.now.netlist.now)
             × (length wires.now ≡ cell_count self.now.netlist.now) }
         ensures { result ≡ value self.now.width.bits self.now.load self.now.words.now
-            (held_by self.now.before n) (at (take n wires.now))
+            (held_by self.now.before self.now.start n) (at (take n wires.now))
             (cell_at self.now.netlist.now n) }
     {
         match self.gate(n) {
@@ -88,7 +90,7 @@ impl Cycle<'_> {
             Gate::NonZero => u32::from(self.high(n, 1, wires)),
             Gate::Input => self.words[cells::number(self.netlist, n, 1) as usize],
             Gate::Constant => cells::number(self.netlist, n, 1),
-            Gate::WordRegister => self.register(n, 0),
+            Gate::WordRegister => self.register(n, self.start),
             Gate::Choice => {
                 let (yes, no) = (self.lower(n, 2, wires), self.lower(n, 3, wires));
                 if self.high(n, 1, wires) { yes } else { no }
@@ -107,7 +109,7 @@ impl Cycle<'_> {
     fn fill(&self, wires: &mut [u32])
         requires { length wires.old ≡ cell_count self.now.netlist.now }
         ensures { wires.new ≡ pass self.now.width.bits self.now.load self.now.words.now
-            (held_by self.now.before) [] (cells_of self.now.netlist.now) }
+            (held_by self.now.before self.now.start) [] (cells_of self.now.netlist.now) }
     {
         for n in 0..cells::count(self.netlist) {
             wires[n] = self.shows(n, wires);
@@ -122,10 +124,12 @@ pub fn first<'a>(width: u32, netlist: &'a [u32], load: bool, words: &'a [u32], w
     ensures { wires.new ≡ power_up width (λ n. 0) netlist.now load
         words.now }
 {
+    let start = 0;
     Cycle {
         width: Width { bits: width },
         netlist,
         before: None,
+        start,
         load,
         words,
     }
@@ -151,6 +155,7 @@ pub fn next<'a>(
         width: Width { bits: width },
         netlist,
         before: Some(before),
+        start: 0,
         load,
         words,
     }

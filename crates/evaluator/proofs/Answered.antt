@@ -15,7 +15,7 @@ use Rattle.meaning.proofs.Tests.{both}
 use Rattle.meaning.proofs.Typed.{ins-few}
 use Rattle.meaning.proofs.Alike.{padded-evaluates}
 use Rattle.meaning.proofs.Steps.{later-zero}
-use Rattle.terms.proofs.Facts.{answers, table}
+use Rattle.terms.proofs.Facts.{passes, table}
 use Rattle.leaves.specs.Results.{Leaves}
 use Rattle.leaves.proofs.Left.{leaves-as}
 use Rattle.runs.specs.Runs.{term_from}
@@ -33,8 +33,7 @@ module _ (w : ℕ) (t : List ℕ) (x : Words) (n : ℕ) where
 
   module _ (facts : List Known) (h : Ok facts ≡ facts_of w t) where
     went : verdict_of w t ≡ passed
-    unfolding facts_of
-    went = (answers (verdict_of w t) (known_facts t) facts (sym h)).0
+    went = passes w t facts (sym h)
 
     pub words_refused : false ≡ words_fit w (ins (main_of t)) x → refused cause.InputWords 0 ≡ evaluated_of w t x n
     unfolding evaluated_of

@@ -10,15 +10,17 @@
 mod inputs;
 
 ghost use Rattle.std.specs.Prelude.{◌≡◌, ◌≤◌, length};
+ghost use Rattle.meaning.specs.Refusals.{passed};
+ghost use Rattle.meaning.specs.Checks.{verdict_of};
 ghost use Rattle.meaning.specs.Answers.{evaluated_of};
 ghost use Rattle.evaluator.specs.Answered.{ran_on};
 
 use meaning::{Answer, Cause, Refusal};
 use terms::Accepted;
 
-// The run of the main term of an accepted table, on words that fit it.
+// The run of the main term of a table that is accepted at its width, on words that fit it.
 fn ran(table: &Accepted, input: &[u32], budget: u32) -> Option<Answer>
-    requires { length input.now ≤ 16 }
+    requires { (verdict_of table.now.width table.now.numbers.now ≡ passed) × (length input.now ≤ 16) }
     ensures { result ≡ ran_on table.now.width table.now.numbers.now input.now budget }
 {
     let main = table.main();
@@ -33,7 +35,7 @@ fn ran(table: &Accepted, input: &[u32], budget: u32) -> Option<Answer>
 
 // What the main term of a table gives on the words, and its cycles, where they are within the
 // budget.
-#[tactic(auto, using(crate::proofs::Answered::in_order))]
+#[tactic(auto, using(crate::proofs::Answered::in_order, terms::proofs::Facts::from_facts))]
 pub fn evaluate(
     width: u32,
     table: &[u32],

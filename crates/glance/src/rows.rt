@@ -22,7 +22,8 @@ impl Look<'_> {
     // Whether wire v is one of the first m, and drives a bit.
     fn bit(&self, m: usize, v: u32) -> bool
         requires { m ≤ cell_count self.now.netlist.now }
-        ensures { result ≡ true → BitBelow self.now.netlist.now m v }
+        ensures only_where { result ≡ true → BitBelow self.now.netlist.now m v }
+        ensures wherever { BitBelow self.now.netlist.now m v → result ≡ true }
     {
         (v as usize) < m && cells::kind(self.netlist, v as usize) <= 6
     }
@@ -30,7 +31,8 @@ impl Look<'_> {
     // Whether wire v is one of the first m, and drives a word.
     fn word(&self, m: usize, v: u32) -> bool
         requires { m ≤ cell_count self.now.netlist.now }
-        ensures { result ≡ true → WordBelow self.now.netlist.now m v }
+        ensures only_where { result ≡ true → WordBelow self.now.netlist.now m v }
+        ensures wherever { WordBelow self.now.netlist.now m v → result ≡ true }
     {
         (v as usize) < m && 8 <= cells::kind(self.netlist, v as usize)
     }
@@ -38,8 +40,10 @@ impl Look<'_> {
     // Whether cell n, with the numbers that it has, and what its wire shows meet the row of a gate.
     fn row(&self, gate: Gate, n: usize, cell: [u32; 4], shown: u32) -> bool
         requires { n < cell_count self.now.netlist.now }
-        ensures { result ≡ true → Row self.now.width.bits self.now.netlist.now self.now.given n
-            shown cell gate }
+        ensures only_where { result ≡ true → Row self.now.width.bits self.now.netlist.now
+            self.now.given n shown cell gate }
+        ensures wherever { Row self.now.width.bits self.now.netlist.now self.now.given n shown
+            cell gate → result ≡ true }
     {
         let cells = cells::count(self.netlist);
         let most = self.width.ones();

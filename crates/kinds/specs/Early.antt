@@ -11,7 +11,7 @@ abbrev pub alone : ℕ → ℕ → ℕ → ℕ → List ℕ
 alone kind a b c = kind ∷ a ∷ b ∷ c ∷ []
 
 -- The first of them that such a term gives, if one does.
-unfoldable pub early_of : ℕ → ℕ → ℕ → ℕ → ℕ → Check
+abbrev pub early_of : ℕ → ℕ → ℕ → ℕ → ℕ → Check
 early_of w kind a b c =
     pick (known_kind kind)
     (pick (unused_zero (alone kind a b c) 0)

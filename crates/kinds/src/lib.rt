@@ -2,16 +2,11 @@
 // docs/READING.md: "Term tables", "Refusal numbers".
 #![tactic(auto)]
 
-ghost use Rattle.std.specs.Prelude.{◌≡◌, true, eqb, leb};
-ghost use Rattle.meaning.specs.Choices.{or};
-ghost use Rattle.meaning.specs.Checks.{
-  known_kind,
-  operands_of,
-  used_of,
-  unused_zero,
-  values_fit,
-};
-ghost use Rattle.kinds.specs.Early.{alone, early_of};
+ghost use Rattle.std.specs.Prelude.{◌≡◌, leb, Err};
+ghost use Rattle.meaning.specs.Choices.{pick, and};
+ghost use Rattle.meaning.specs.Refusals.{passed};
+ghost use Rattle.meaning.specs.Checks.{known_kind, operands_of};
+ghost use Rattle.kinds.specs.Early.{early_of};
 
 use meaning::{Cause, Kind};
 use words::Width;
@@ -21,6 +16,13 @@ fn known(kind: u32) -> bool
     ensures { result ≡ known_kind kind }
 {
     matches!(kind, 1..=4 | 9 | 12..=22)
+}
+
+// 13 to 22: the kind is an operation on words. Most terms are, and this tells it by one compare.
+fn operates(kind: u32) -> bool
+    ensures { result ≡ and (leb 13 kind) (leb kind 22) }
+{
+    (13..=22).contains(&kind)
 }
 
 // How many of a, b, c name terms.
@@ -35,51 +37,34 @@ pub fn operands(kind: u32) -> usize
     }
 }
 
-// How many of a, b, c a kind of the table's uses.
-#[tactic(auto, unfolding(meaning::specs::Checks::used_of))]
-fn used(kind: u32) -> usize
-    requires { known_kind kind ≡ true }
-    ensures { result ≡ used_of kind }
+// A check passes where its condition holds, and is refused for its cause where not.
+fn require(condition: bool, cause: Cause) -> Result<(), Cause>
+    ensures { result ≡ pick condition passed (Err cause) }
 {
-    match Kind::from(kind) {
-        Kind::Const | Kind::Field => 2,
-        _ => operands(kind),
-    }
-}
-
-// 4: the unused numbers of a term are 0.
-fn unused_zero(kind: u32, a: u32, b: u32, c: u32) -> bool
-    requires { known_kind kind ≡ true }
-    ensures { result ≡ unused_zero (alone kind a b c) 0 }
-{
-    [a, b, c].iter().skip(used(kind)).all(|x| *x == 0)
-}
-
-// 5: m is 1 to 16; a Const's v is a word, a Field's k is below m.
-fn values_fit(width: Width, kind: u32, m: u32, v: u32) -> bool
-    requires { known_kind kind ≡ true }
-    ensures { result ≡ values_fit width.bits (alone kind m v 0) 0 }
-{
-    match Kind::from(kind) {
-        Kind::Const => words::few_words(m) && width.fits(v),
-        Kind::Field => words::few_words(m) && v < m,
-        _ => true,
-    }
+    if condition { Ok(()) } else { Err(cause) }
 }
 
 // The first refusal of 3 to 5 that a term of these numbers gives, if one does.
-#[tactic(auto, unfolding(crate::specs::Early::early_of))]
+// 4: the unused numbers of a term are 0.
+// 5: m is 1 to 16; a Const's v is a word, a Field's k is below m.
+#[tactic(auto, unfolding(meaning::specs::Checks::used_of, meaning::specs::Checks::operands_of))]
 pub fn early(width: Width, kind: u32, a: u32, b: u32, c: u32) -> Result<(), Cause>
     ensures { result ≡ early_of width.bits kind a b c }
 {
-    if !known(kind) {
-        return Err(Cause::TermKind);
+    if operates(kind) {
+        return require(a == 0 && b == 0 && c == 0, Cause::UnusedNumber);
     }
-    if !unused_zero(kind, a, b, c) {
-        return Err(Cause::UnusedNumber);
+    match Kind::from(kind) {
+        Kind::Seq | Kind::Par => require(c == 0, Cause::UnusedNumber),
+        Kind::Ite | Kind::Rec => Ok(()),
+        Kind::Const => {
+            require(c == 0, Cause::UnusedNumber)?;
+            require(words::few_words(a) && width.fits(b), Cause::TermValue)
+        }
+        Kind::Field if known(kind) => {
+            require(c == 0, Cause::UnusedNumber)?;
+            require(words::few_words(a) && b < a, Cause::TermValue)
+        }
+        _ => Err(Cause::TermKind),
     }
-    if !values_fit(width, kind, a, b) {
-        return Err(Cause::TermValue);
-    }
-    Ok(())
 }

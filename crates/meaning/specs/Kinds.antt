@@ -4,6 +4,7 @@ use Rattle.meaning.specs.declared.Kind.{Kind}
 use Rattle.meaning.specs.declared.Kind.TheVariants as kind
 use Rattle.meaning.specs.Choices.{pick}
 
+-- What a kind's number names. Numbers of no kind name one too: refusal 3 judges them.
 abbrev pub kind_named : ℕ → Kind
 kind_named k =
     pick (eqb k 1) kind.Seq

@@ -1,27 +1,25 @@
 -- Law: the parts of a term of an accepted table, by the numbers that the code has read. Assumes nothing.
-use Rattle.std.proofs.Common.{ℕ, ◌≤◌, ◌<◌, ◌≡◌, refl, sym, ap, ◌∙◌, List, arith, Ok}
+use Rattle.std.proofs.Common.{ℕ, ◌≤◌, ◌<◌, ◌≡◌, refl, sym, ap, ◌∙◌, List, arith}
 use Rattle.meaning.specs.declared.Kind.{Kind}
 use Rattle.meaning.specs.declared.Kind.TheVariants as kind
-use Rattle.meaning.specs.declared.Known.{Known}
 use Rattle.meaning.specs.Words.{Words}
+use Rattle.meaning.specs.Refusals.{passed}
 use Rattle.meaning.specs.Terms.{number_of, kind_of, count, seq, par, ite, rec, tree}
 use Rattle.meaning.specs.Kinds.{kind_named}
 use Rattle.meaning.specs.Counts.{outs}
+use Rattle.meaning.specs.Checks.{verdict_of}
 use Rattle.meaning.specs.Cycles.{leaf_word, leaf_run, evaluate}
-use Rattle.meaning.specs.Answers.{facts_of}
-use Rattle.meaning.proofs.Accepted.{Accepted}
+use Rattle.meaning.proofs.Accepted.{accepted}
 use Rattle.meaning.proofs.Rows.{LeafRow, rows}
 use Rattle.meaning.proofs.Typed.{Well, well, outs-few}
-use Rattle.terms.specs.declared.Accepted.{Accepted as Judged}
-use Rattle.terms.proofs.Facts as facts
 use Rattle.terms.proofs.Parts.{Parts, parts}
 use Rattle.leaves.specs.Results.{run_from}
-use Rattle.runs.specs.Runs.{term_from}
+use Rattle.runs.specs.Runs.{Startable, term_from}
 
 -- By its kind: lower terms, and the tree over theirs; and a term gives few words.
-module _ (w : ℕ) (t : List ℕ) (terms : List Known) (judged : facts_of w t ≡ Ok terms) (k : ℕ) (there : k < count t) where
+module _ (w : ℕ) (t : List ℕ) (passes : verdict_of w t ≡ passed) (k : ℕ) (there : k < count t) where
   of-kind : (K : Kind) (n : ℕ) → K ≡ kind_named n → kind_of t k ≡ n → Parts t k K
-  of-kind K n e h = parts t k K (e ∙ sym (ap kind_named h)) ((facts.table w t terms judged).fits k there)
+  of-kind K n e h = parts t k K (e ∙ sym (ap kind_named h)) ((accepted w t passes).fits k there)
 
   pub seq_parts : kind_of t k ≡ 1 → Parts t k kind.Seq
   seq_parts = of-kind kind.Seq 1 refl
@@ -36,42 +34,35 @@ module _ (w : ℕ) (t : List ℕ) (terms : List Known) (judged : facts_of w t �
   rec_parts = of-kind kind.Rec 4 refl
 
   pub few : outs (tree t k) ≤ 16
-  few = (outs-few w t (facts.table w t terms judged) k there).1
+  few = (outs-few w t (accepted w t passes) k there).1
 
 pub ruleset by_kind = (seq_parts, par_parts, ite_parts, rec_parts, few)
 
 -- What the numbers of a term make of it, by its kind.
-module _ (table : Judged) where
-  abbrev t : List ℕ
-  t = table.numbers.now
+module _ {w : ℕ} {t : List ℕ} {k start limit : ℕ} (s : Startable w t k start limit) where
+  pub typed : Well w (tree t k)
+  typed = well w t (accepted w t s.accepted) k s.there
 
-  pub judged : Accepted table.width t
-  judged = facts.table table.width t table.terms.now table.judged
+  module _ {f g : ℕ} (p : f ≡ number_of t k 1) (q : g ≡ number_of t k 2) where
+    pub seq-tree : kind_of t k ≡ 1 → tree t k ≡ seq (tree t f) (tree t g)
+    seq-tree e = rw (p, q) (seq_parts w t s.accepted k s.there e).2
 
-  module _ {k : ℕ} (there : k < count t) where
-    pub typed : Well table.width (tree t k)
-    typed = well table.width t judged k there
+    pub par-tree : kind_of t k ≡ 2 → tree t k ≡ par (tree t f) (tree t g)
+    par-tree e = rw (p, q) (par_parts w t s.accepted k s.there e).2
 
-    module _ {f g : ℕ} (p : f ≡ number_of t k 1) (q : g ≡ number_of t k 2) where
-      pub seq-tree : kind_of t k ≡ 1 → tree t k ≡ seq (tree t f) (tree t g)
-      seq-tree e = rw (p, q) (seq_parts table.width t table.terms.now table.judged k there e).2
+  module _ {e f g : ℕ} (o : e ≡ number_of t k 1) (p : f ≡ number_of t k 2) (q : g ≡ number_of t k 3) where
+    pub ite-tree : kind_of t k ≡ 3 → tree t k ≡ ite (tree t e) (tree t f) (tree t g)
+    ite-tree n = rw (o, p, q) (ite_parts w t s.accepted k s.there n).3
 
-      pub par-tree : kind_of t k ≡ 2 → tree t k ≡ par (tree t f) (tree t g)
-      par-tree e = rw (p, q) (par_parts table.width t table.terms.now table.judged k there e).2
+    pub rec-tree : kind_of t k ≡ 4 → tree t k ≡ rec (tree t e) (tree t f) (tree t g)
+    rec-tree n = rw (o, p, q) (rec_parts w t s.accepted k s.there n).3
 
-    module _ {e f g : ℕ} (o : e ≡ number_of t k 1) (p : f ≡ number_of t k 2) (q : g ≡ number_of t k 3) where
-      pub ite-tree : kind_of t k ≡ 3 → tree t k ≡ ite (tree t e) (tree t f) (tree t g)
-      ite-tree n = rw (o, p, q) (ite_parts table.width t table.terms.now table.judged k there n).3
-
-      pub rec-tree : kind_of t k ≡ 4 → tree t k ≡ rec (tree t e) (tree t f) (tree t g)
-      rec-tree n = rw (o, p, q) (rec_parts table.width t table.terms.now table.judged k there n).3
-
-    pub leaf-row : {K : Kind} → K ≡ kind_named (kind_of t k) → (K ≡ kind.Seq → ⊥) → (K ≡ kind.Par → ⊥) → (K ≡ kind.Ite → ⊥) →
-        (K ≡ kind.Rec → ⊥) → LeafRow table.width t k
-    leaf-row n a b c d =
-        let row = rows table.width t k (judged.fits k there) in
-        row.on_leaf (λ e. a (n ∙ ap kind_named e)) (λ e. b (n ∙ ap kind_named e)) (λ e. c (n ∙ ap kind_named e))
-        (λ e. d (n ∙ ap kind_named e))
+  pub leaf-row : {K : Kind} → K ≡ kind_named (kind_of t k) → (K ≡ kind.Seq → ⊥) → (K ≡ kind.Par → ⊥) → (K ≡ kind.Ite → ⊥) →
+      (K ≡ kind.Rec → ⊥) → LeafRow w t k
+  leaf-row n a b c d =
+      let row = rows w t k ((accepted w t s.accepted).fits k s.there) in
+      row.on_leaf (λ e. a (n ∙ ap kind_named e)) (λ e. b (n ∙ ap kind_named e)) (λ e. c (n ∙ ap kind_named e))
+      (λ e. d (n ∙ ap kind_named e))
 
 -- A leaf, of which the code has read the kind and b: a Field names one of 16 words, and the tree is the leaf of these numbers.
 module _ {w : ℕ} {t : List ℕ} {k : ℕ} (row : LeafRow w t k) {n b : ℕ} (p : n ≡ kind_of t k) (q : b ≡ number_of t k 2) where

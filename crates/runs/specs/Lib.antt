@@ -1,2 +1,2 @@
--- The run that the term evaluator makes. Definitions only.
+-- What the term evaluator is asked, and the run that it makes. Definitions only.
 pub mod Runs

@@ -7,10 +7,10 @@
 //     seq, par, ite, rounds   the combinators; `rounds` is the round evaluator of Rec
 #![tactic(auto, using(crate::proofs::Parts::by_kind))]
 
-ghost use Rattle.std.specs.Prelude.{◌≡◌, ◌<◌, ◌≤◌};
-ghost use Rattle.meaning.specs.Terms.{kind_of, count};
+ghost use Rattle.std.specs.Prelude.{◌≡◌};
+ghost use Rattle.meaning.specs.Terms.{kind_of};
 ghost use Rattle.leaves.specs.Results.{Leaves};
-ghost use Rattle.runs.specs.Runs.{term_from};
+ghost use Rattle.runs.specs.Runs.{Startable, term_from};
 
 use meaning::Kind;
 use terms::Accepted;
@@ -24,7 +24,7 @@ pub fn term(
     start: u32,
     limit: u32,
 ) -> Option<u32>
-    requires { (k < count table.now.numbers.now) × (start ≤ limit) }
+    requires { Startable table.now.width table.now.numbers.now k start limit }
     ensures { Leaves (term_from table.now.width table.now.numbers.now k start limit words.old) result words.new }
 {
     match table.kind(k) {
@@ -43,7 +43,7 @@ pub fn term(
 // Seq: f, and from its end on g, on f's words.
 #[cycle(ite_par_rounds_seq_term)]
 fn seq(table: &Accepted, k: usize, words: &mut [u32; 16], start: u32, limit: u32) -> Option<u32>
-    requires { (k < count table.now.numbers.now) × (start ≤ limit) × (kind_of table.now.numbers.now k ≡ 1) }
+    requires { (Startable table.now.width table.now.numbers.now k start limit) × (kind_of table.now.numbers.now k ≡ 1) }
     ensures { Leaves (term_from table.now.width table.now.numbers.now k start limit words.old) result words.new }
 {
     let f = table.operand(k, 1);
@@ -55,7 +55,7 @@ fn seq(table: &Accepted, k: usize, words: &mut [u32; 16], start: u32, limit: u32
 // Par: f and g from the same start on the same words; the later end, and f's words, then g's.
 #[cycle(ite_par_rounds_seq_term)]
 fn par(table: &Accepted, k: usize, words: &mut [u32; 16], start: u32, limit: u32) -> Option<u32>
-    requires { (k < count table.now.numbers.now) × (start ≤ limit) × (kind_of table.now.numbers.now k ≡ 2) }
+    requires { (Startable table.now.width table.now.numbers.now k start limit) × (kind_of table.now.numbers.now k ≡ 2) }
     ensures { Leaves (term_from table.now.width table.now.numbers.now k start limit words.old) result words.new }
 {
     let f = table.operand(k, 1);
@@ -70,7 +70,7 @@ fn par(table: &Accepted, k: usize, words: &mut [u32; 16], start: u32, limit: u32
 // Ite: e on a copy of the words, and from its end on the branch that its word takes.
 #[cycle(ite_par_rounds_seq_term)]
 fn ite(table: &Accepted, k: usize, words: &mut [u32; 16], start: u32, limit: u32) -> Option<u32>
-    requires { (k < count table.now.numbers.now) × (start ≤ limit) × (kind_of table.now.numbers.now k ≡ 3) }
+    requires { (Startable table.now.width table.now.numbers.now k start limit) × (kind_of table.now.numbers.now k ≡ 3) }
     ensures { Leaves (term_from table.now.width table.now.numbers.now k start limit words.old) result words.new }
 {
     let e = table.operand(k, 1);
@@ -89,7 +89,7 @@ fn ite(table: &Accepted, k: usize, words: &mut [u32; 16], start: u32, limit: u32
 // goes on, and one cycle feeds its words back.
 #[cycle(ite_par_rounds_seq_term)]
 fn rounds(table: &Accepted, k: usize, words: &mut [u32; 16], start: u32, limit: u32) -> Option<u32>
-    requires { (k < count table.now.numbers.now) × (start ≤ limit) × (kind_of table.now.numbers.now k ≡ 4) }
+    requires { (Startable table.now.width table.now.numbers.now k start limit) × (kind_of table.now.numbers.now k ≡ 4) }
     ensures { Leaves (term_from table.now.width table.now.numbers.now k start limit words.old) result words.new }
 {
     let e = table.operand(k, 1);

@@ -1,5 +1,5 @@
 -- Law: the scan of a table from term k on, with what is known of the terms below: where it ends, refuses and goes on.
--- Cited by the proofs of `judged` and `scanned`. Assumes nothing.
+-- Cited by the proofs of `judge` and `scanned`. Assumes nothing.
 use Prim.Native.Nat.{ℕ, zero, suc, ◌+◌, ◌≤◌, ◌<◌}
 use mathlib.Core.Path.{◌≡◌, refl, ap}
 use mathlib.Core.Bool.{Bool, true, false}
@@ -16,7 +16,7 @@ use Rattle.meaning.specs.declared.Refusal.{Refusal}
 use Rattle.meaning.specs.declared.Known.{Known}
 use Rattle.meaning.specs.Choices.{pick, listed}
 use Rattle.meaning.specs.Refusals.{Check, Verdict, passed, refused, on_verdict}
-use Rattle.meaning.specs.Terms.{kind_of, count, Term, tree}
+use Rattle.meaning.specs.Terms.{number_of, kind_of, count, Term, leaf, tree}
 use Rattle.meaning.specs.Counts.{ins, outs}
 use Rattle.meaning.specs.Checks.{known_kind, unused_zero, values_fit, operands_of, operands_below, counts_fit, par_small}
 use Rattle.meaning.specs.Checks.{refusal_at, first_refusal}
@@ -25,20 +25,24 @@ use Rattle.meaning.proofs.Tests.{split, by-test}
 use Rattle.meaning.proofs.Verdicts.{scan-passes}
 use Rattle.meaning.proofs.Decoded.{tree-seq, tree-par, tree-ite, tree-rec, tree-leaf-from}
 use Rattle.meaning.proofs.Accepted.{Fits, seq-fits, par-fits, ite-fits, rec-fits, const_fits, field_fits, op_fits, fits}
-use Rattle.kinds.specs.Early.{early_of}
-use Rattle.tables.specs.Readings.{early_at, lower_operands_at, shape_of, judged_at, Ready}
+use Rattle.kinds.proofs.Joining.{seq_operands, par_operands, ite_operands, rec_operands}
+use Rattle.tables.specs.Readings.{early_at, lower_operands_at, shape_of, Ready}
 use Rattle.tables.specs.Scans.{Scanned}
-use Rattle.tables.proofs.Combined.{known_small}
+use Rattle.tables.proofs.Combined.{known_small, leaf_found}
 use Rattle.tables.proofs.Filled.{filled, filled_at, filled_next}
 
--- What term k gives, from what the code finds of it, in the order of the checks.
+-- What a shape says of the check.
+abbrev shape_check : Result Known Cause → Check
+shape_check (Ok known) = passed
+shape_check (Err c) = Err c
+
+-- The checks of term k, from what the code finds of it, in their order.
 steps : (a b c d e f : Bool) (known : Known) →
-    on_verdict
-    (pick a (pick b (pick c (pick d (pick e (pick f passed (Err cause.ParOutputs)) (Err cause.WordCounts)) (Err cause.Operand))
-    (Err cause.TermValue)) (Err cause.UnusedNumber)) (Err cause.TermKind))
-    (Ok known) Err
+    pick a (pick b (pick c (pick d (pick e (pick f passed (Err cause.ParOutputs)) (Err cause.WordCounts)) (Err cause.Operand))
+    (Err cause.TermValue)) (Err cause.UnusedNumber)) (Err cause.TermKind)
     ≡ on_verdict (pick a (pick b (pick c passed (Err cause.TermValue)) (Err cause.UnusedNumber)) (Err cause.TermKind))
-    (on_verdict (pick d passed (Err cause.Operand)) (pick e (pick f (Ok known) (Err cause.ParOutputs)) (Err cause.WordCounts)) Err) Err
+    (on_verdict (pick d passed (Err cause.Operand))
+    (shape_check (pick e (pick f (Ok known) (Err cause.ParOutputs)) (Err cause.WordCounts))) Err) Err
 steps true true true true true true known = refl
 steps true true true true true false known = refl
 steps true true true true false f known = refl
@@ -48,11 +52,42 @@ steps true false c d e f known = refl
 steps false b c d e f known = refl
 
 pub judged_by : (w : ℕ) (t : List ℕ) (k : ℕ) →
-    judged_at w t k ≡ on_verdict (early_at w t k) (on_verdict (lower_operands_at t k) (shape_of t k) Err) Err
-unfolding judged_at refusal_at early_of shape_of
+    refusal_at w t k ≡ on_verdict (early_at w t k) (on_verdict (lower_operands_at t k) (shape_check (shape_of t k)) Err) Err
+unfolding refusal_at shape_of
 judged_by w t k =
     steps (known_kind (kind_of t k)) (unused_zero t k) (values_fit w t k) (operands_below t k (operands_of (kind_of t k)))
     (counts_fit t k) (par_small t k) (known_of (tree t k))
+
+-- A shape that is given is that of the tree.
+given : (e f : Bool) (known g : Known) →
+    ◌≡◌ {A = Result Known Cause} (pick e (pick f (Ok known) (Err cause.ParOutputs)) (Err cause.WordCounts)) (Ok g) → g ≡ known
+given true true known g h = cc
+given true false known g h = let z : ◌≡◌ {A = ℕ} 0 1 = cc in absurd (omega arith)
+given false f known g h = let z : ◌≡◌ {A = ℕ} 0 1 = cc in absurd (omega arith)
+
+pub shape_given : (t : List ℕ) (k : ℕ) (g : Known) → shape_of t k ≡ Ok g → g ≡ known_of (tree t k)
+unfolding shape_of
+shape_given t k g h = given (counts_fit t k) (par_small t k) (known_of (tree t k)) g h
+
+-- A term that names no others is a leaf, and passes 6 to 8.
+leaf_shape : (t : List ℕ) (k : ℕ) → operands_of (kind_of t k) ≡ 0 →
+    shape_of t k ≡ Ok (known_of (leaf (kind_of t k) (number_of t k 1) 0))
+leaf_shape t k none =
+    leaf_found t k (λ h. let n = seq_operands (kind_of t k) h in absurd (omega arith))
+    (λ h. let n = par_operands (kind_of t k) h in absurd (omega arith))
+    (λ h. let n = ite_operands (kind_of t k) h in absurd (omega arith))
+    (λ h. let n = rec_operands (kind_of t k) h in absurd (omega arith))
+
+pub leaf_judged : (t : List ℕ) (k : ℕ) → operands_of (kind_of t k) ≡ 0 →
+    on_verdict (lower_operands_at t k) (shape_check (shape_of t k)) Err ≡ passed
+unfolding operands_below
+leaf_judged t k none = rw (none, leaf_shape t k none)
+
+pub leaf_given : (t : List ℕ) (k : ℕ) → operands_of (kind_of t k) ≡ 0 →
+    known_of (leaf (kind_of t k) (number_of t k 1) 0) ≡ known_of (tree t k)
+leaf_given t k none = shape_given t k _ (leaf_shape t k none)
+
+pub ruleset judging = (judged_by, shape_given, leaf_judged, leaf_given)
 
 -- A term that passes takes and gives at most 16 words.
 record Few (T : Term) : Type 0 where
@@ -100,15 +135,6 @@ pub starts : (w : ℕ) (t : List ℕ) → Going w t (replicate 256 nothing_known
 unfolding listed
 starts w t = record { passing = λ j l. absurd (omega arith); holds = refl; few = λ j l. absurd (omega arith) }
 
--- What a judgement says of the check, and of what the term gives.
-judged-refuses : (c : Check) (f : Known) (e : Cause) → ◌≡◌ {A = Result Known Cause} (on_verdict c (Ok f) Err) (Err e) → c ≡ Err e
-judged-refuses (Ok u) f e h = let z : ◌≡◌ {A = ℕ} 0 1 = cc in absurd (omega arith)
-judged-refuses (Err d) f e h = cc
-
-judged-passes : (c : Check) (f g : Known) → ◌≡◌ {A = Result Known Cause} (on_verdict c (Ok f) Err) (Ok g) → (c ≡ passed) × (g ≡ f)
-judged-passes (Ok u) f g h = (refl, cc)
-judged-passes (Err d) f g h = let z : ◌≡◌ {A = ℕ} 0 1 = cc in absurd (omega arith)
-
 module _ {w : ℕ} {t : List ℕ} {terms : List Known} {k : ℕ} (G : Going w t terms k) where
   pub ends : k ≡ count t → Scanned w t (Ok terms)
   ends e = record {
@@ -117,10 +143,8 @@ module _ {w : ℕ} {t : List ℕ} {terms : List Known} {k : ℕ} (G : Going w t 
   }
 
   module _ (l : k < count t) where
-    pub refuses : (r : Refusal) → r.place ≡ k → judged_at w t k ≡ Err r.cause → Scanned w t (Err r)
-    unfolding judged_at
-    refuses r p e =
-        let h = judged-refuses _ _ r.cause e in
+    pub refuses : (r : Refusal) → r.place ≡ k → refusal_at w t k ≡ Err r.cause → Scanned w t (Err r)
+    refuses r p h =
         record {
           first = rw (scan-refuses (refusal_at w t) (count t) 0 k passed r.cause (omega arith) (omega arith) (λ j x y. G.passing j y) h)
               (ap (λ (n : ℕ). refused r.cause n) p);
@@ -136,18 +160,16 @@ module _ {w : ℕ} {t : List ℕ} {terms : List Known} {k : ℕ} (G : Going w t 
         small = λ j u. known_small (tree t j) (G.few j u).few_ins (G.few j u).few_outs;
       }
 
-      pub goes_on : (f : Known) → judged_at w t k ≡ Ok f → Going w t (set terms k f) (k + 1)
-      unfolding judged_at
-      goes_on f e =
-          let h : (refusal_at w t k ≡ passed) × (f ≡ known_of (tree t k)) = judged-passes _ _ f e in
+      pub goes_on : refusal_at w t k ≡ passed → Going w t (set terms k (known_of (tree t k))) (k + 1)
+      goes_on h =
           record {
             passing = λ j u. elim (split j k) [
               | inl a ↦ G.passing j a
-              | inr a ↦ (let z : j ≡ k = omega arith in rw z h.0)
+              | inr a ↦ (let z : j ≡ k = omega arith in rw z h)
             ];
-            holds = rw (G.holds, h.1) (filled_next (λ j. known_of (tree t j)) nothing_known k (omega arith));
+            holds = rw G.holds (filled_next (λ j. known_of (tree t j)) nothing_known k (omega arith));
             few = λ j u. elim (split j k) [
               | inl a ↦ G.few j a
-              | inr a ↦ (let z : j ≡ k = omega arith in rw z (few-next w t k G.few (fits w t k h.0)))
+              | inr a ↦ (let z : j ≡ k = omega arith in rw z (few-next w t k G.few (fits w t k h)))
             ];
           }

@@ -5,9 +5,9 @@ use Rattle.meaning.specs.declared.Cause.{Cause}
 use Rattle.meaning.specs.declared.Cause.TheVariants as cause
 use Rattle.meaning.specs.declared.Known.{Known}
 use Rattle.meaning.specs.Choices.{pick}
-use Rattle.meaning.specs.Refusals.{Check, passed, on_verdict}
+use Rattle.meaning.specs.Refusals.{Check, passed}
 use Rattle.meaning.specs.Terms.{number_of, kind_of, tree}
-use Rattle.meaning.specs.Checks.{operands_of, operands_below, counts_fit, par_small, refusal_at}
+use Rattle.meaning.specs.Checks.{operands_of, operands_below, counts_fit, par_small}
 use Rattle.meaning.specs.Answers.{known_of, nothing_known}
 use Rattle.kinds.specs.Early.{early_of}
 use Rattle.shapes.specs.Shapes.{Small}
@@ -28,10 +28,6 @@ read_at terms f = get_or terms f nothing_known
 unfoldable pub shape_of : List ℕ → ℕ → Result Known Cause
 shape_of t k =
     pick (counts_fit t k) (pick (par_small t k) (Ok (known_of (tree t k))) (Err cause.ParOutputs)) (Err cause.WordCounts)
-
--- Term k: the first of 3 to 8 that it fails, or what its tree has.
-unfoldable pub judged_at : ℕ → List ℕ → ℕ → Result Known Cause
-judged_at w t k = on_verdict (refusal_at w t k) (Ok (known_of (tree t k))) Err
 
 -- An array holds what is known of the terms below k.
 pub record Ready (t : List ℕ) (k : ℕ) (terms : List Known) : Type 0 where

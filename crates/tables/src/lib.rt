@@ -1,17 +1,20 @@
 // A table's numbers, and its refusals 3 to 8 term by term, with what they find of each term.
 // docs/READING.md: "Term tables", "Refusal numbers".
 //
-//     scanned   lowest term first: `judged`
-//     judged    `early`, `lower_operands`, `readings::shape_of`
+//     scanned   lowest term first: `judge`
+//     judge     `early`, `lower_operands`, `readings::shape_of`
 //     early     3 to 5, by the term's own numbers (`kinds`)
 //     readings  7 and 8, by what is known of the operands (`shapes`)
 #![tactic(auto)]
 
 mod readings;
 
-ghost use Rattle.std.specs.Prelude.{◌≡◌, ◌*◌, ◌+◌, ◌<◌, ◌≤◌, length};
-ghost use Rattle.meaning.specs.Terms.{number_of};
-ghost use Rattle.tables.specs.Readings.{early_at, lower_operands_at, judged_at, Ready};
+ghost use Rattle.std.specs.Prelude.{◌≡◌, ◌*◌, ◌+◌, ◌<◌, ◌≤◌, length, set};
+ghost use Rattle.meaning.specs.Refusals.{on_verdict};
+ghost use Rattle.meaning.specs.Terms.{number_of, tree};
+ghost use Rattle.meaning.specs.Checks.{refusal_at};
+ghost use Rattle.meaning.specs.Answers.{known_of};
+ghost use Rattle.tables.specs.Readings.{early_at, lower_operands_at, Ready};
 ghost use Rattle.tables.specs.Scans.{Scanned};
 
 use meaning::{Cause, Known, Refusal};
@@ -65,15 +68,22 @@ fn lower_operands(table: &[u32], k: usize) -> Result<(), Cause>
     Ok(())
 }
 
-// 3 to 8 of term k, or what it gives, its lower terms being known.
-#[tactic(auto, using(crate::proofs::Scan::judged_by))]
-fn judged(width: Width, table: &[u32], k: usize, terms: &[Known; 256]) -> Result<Known, Cause>
-    requires { Ready table.now k terms.now }
-    ensures { result ≡ judged_at width.bits table.now k }
+// 3 to 8 of term k; where it passes, what it gives joins what is known of the lower terms.
+#[tactic(auto, using(crate::proofs::Scan::judging))]
+fn judge(width: Width, table: &[u32], k: usize, terms: &mut [Known; 256]) -> Result<(), Cause>
+    requires { Ready table.now k terms.old }
+    ensures check { result ≡ refusal_at width.bits table.now k }
+    ensures known { terms.new ≡ on_verdict (refusal_at width.bits table.now k)
+        (set terms.old k (known_of (tree table.now k))) (λ cause. terms.old) }
 {
     early(width, table, k)?;
+    if kinds::operands(number(table, k, 0)) == 0 {
+        terms[k] = shapes::leaf(number(table, k, 0), number(table, k, 1));
+        return Ok(());
+    }
     lower_operands(table, k)?;
-    readings::shape_of(table, k, terms)
+    terms[k] = readings::shape_of(table, k, terms)?;
+    Ok(())
 }
 
 // 3 to 8: the first refusal, or what is known of every term.
@@ -84,7 +94,7 @@ pub fn scanned(width: Width, table: &[u32]) -> Result<[Known; 256], Refusal>
     let mut terms = [NOTHING_KNOWN; 256];
     for k in 0..table.len() / 4 {
         let place = k as u32;
-        terms[k] = judged(width, table, k, &terms).map_err(|cause| Refusal { cause, place })?;
+        judge(width, table, k, &mut terms).map_err(|cause| Refusal { cause, place })?;
     }
     Ok(terms)
 }

@@ -11,7 +11,8 @@ use Rattle.meaning.specs.declared.Known.{Known}
 use Rattle.meaning.specs.Terms.{count, last_of, tree}
 use Rattle.meaning.specs.Counts.{size, capped}
 use Rattle.meaning.specs.Answers.{nothing_known, facts_of}
-use Rattle.terms.proofs.Facts.{table, term_at}
+use Rattle.terms.specs.Judged.{Passing, Takes, Gives}
+use Rattle.terms.proofs.Facts.{table, somewhere, term_at, takes_at, gives_at}
 
 module _ (w : ℕ) (t : List ℕ) (f : List Known) (checked : facts_of w t ≡ Ok f) where
   -- For any answer r of `cells` on term k: the entry is r up to the cap, and is r where `cells` may be called.
@@ -22,6 +23,10 @@ module _ (w : ℕ) (t : List ℕ) (f : List Known) (checked : facts_of w t ≡ O
         let entry : (get_or f k nothing_known).cells ≡ capped r = rw (term_at w t f checked k inside, e) in
         (entry, λ l. entry ∙ min-eq_left (omega arith))
 
-  -- On the main term `cells` may always be called.
-  pub main-can-size : (last_of t < count t) × (size (tree t (last_of t)) ≤ 4096)
-  main-can-size = let a = table w t f checked in let s = a.some in let m = a.small in (omega arith, omega arith)
+  -- On the main term `cells` may always be called: what it asks of the table, of the array and of the term holds.
+  pub main-can-size : ∥ Passing t ∥₁ × Gives t f × (last_of t < count t) × Takes t f × (size (tree t (last_of t)) ≤ 4096)
+  main-can-size =
+      let a = table w t f checked in
+      let s = a.some in
+      let m = a.small in
+      (somewhere w t f checked, gives_at w t f checked, omega arith, takes_at w t f checked, omega arith)

@@ -1,22 +1,20 @@
--- Law: the size of an accepted table's term, by those of its operands, which are lower terms. Cited by the proof of `cells`.
--- Assumes nothing.
+-- Law: the size of a term of a table that some width accepts, by those of its operands, which are lower terms. Cited by the proof of
+-- `cells`. Assumes nothing.
 use Prim.Native.Nat.{ℕ, ◌+◌, ◌*◌, ◌<◌}
 use mathlib.Core.Path.{◌≡◌, refl}
 use mathlib.Core.List.{List}
-use Rattle.std.specs.Prelude.{Ok}
-use Rattle.meaning.specs.declared.Known.{Known}
 use Rattle.meaning.specs.declared.Kind.{Kind}
 use Rattle.meaning.specs.declared.Kind.TheVariants as kind
 use Rattle.meaning.specs.Kinds.{kind_named}
 use Rattle.meaning.specs.Terms.{number_of, kind_of, count, tree}
 use Rattle.meaning.specs.Counts.{ins, outs, size}
-use Rattle.meaning.specs.Answers.{facts_of}
-use Rattle.terms.proofs.Facts.{table}
+use Rattle.terms.specs.Judged.{Passing}
+use Rattle.terms.proofs.Facts.{widest}
 use Rattle.terms.proofs.Parts.{Parts, parts}
 
-module _ (w : ℕ) (t : List ℕ) (terms : List Known) (k : ℕ) (judged : facts_of w t ≡ Ok terms) (inside : k < count t) where
+module _ (t : List ℕ) (k : ℕ) (somewhere : ∥ Passing t ∥₁) (inside : k < count t) where
   of-kind : (K : Kind) → K ≡ kind_named (kind_of t k) → Parts t k K
-  of-kind K e = parts t k K e ((table w t terms judged).fits k inside)
+  of-kind K e = parts t k K e ((widest t somewhere).fits k inside)
 
   pub seq_cells : kind.Seq ≡ kind_named (kind_of t k) → (number_of t k 1 < k) × (number_of t k 2 < k) ×
       (size (tree t k) ≡ size (tree t (number_of t k 1)) + size (tree t (number_of t k 2)) + 4)

@@ -5,29 +5,32 @@
 //     Accepted   a table that passed, and what its terms are
 #![tactic(auto)]
 
-ghost use Rattle.std.specs.Prelude.{◌≡◌, ◌<◌, ◌≤◌, ◌%◌, eqb, leb, Ok};
+ghost use Rattle.std.specs.Prelude.{◌≡◌, ◌<◌, ◌≤◌, ◌%◌, eqb, leb};
 ghost use Rattle.meaning.specs.Choices.{and};
 ghost use Rattle.meaning.specs.Terms.{number_of, kind_of, count, last_of, tree};
 ghost use Rattle.meaning.specs.Kinds.{kind_named};
 ghost use Rattle.meaning.specs.Counts.{ins, outs, size};
 ghost use Rattle.meaning.specs.Checks.{operand_tree};
 ghost use Rattle.meaning.specs.Answers.{facts_of};
+ghost use Rattle.terms.specs.Judged.{Passing, Takes, Gives};
 
 use meaning::{Cause, Kind, Known, Refusal};
 use words::Width;
 
-// A table that passed every check at a width, with what is known of each term.
+// A table that some width accepts, the width that a run goes by, and an array that has how many
+// words each term gives. A method that needs more of the array asks for it.
 #[derive(Clone, Copy)]
 pub struct Accepted<'a> {
     pub width: u32,
     pub numbers: &'a [u32],
     pub terms: &'a [Known; 256],
-    ghost judged: { facts_of width numbers.now ≡ Ok terms.now },
+    ghost narrow: { width ≤ 32 },
+    ghost somewhere: { ∥ Passing numbers.now ∥₁ },
+    ghost given: { Gives numbers.now terms.now },
 }
 
 impl Accepted<'_> {
     // How many bits its words have.
-    #[tactic(auto, using(crate::proofs::Facts::narrow))]
     pub fn width(&self) -> Width
         ensures { result.bits ≡ self.now.width }
     {
@@ -67,17 +70,17 @@ impl Accepted<'_> {
         tables::operand(self.numbers, k, j)
     }
 
-    // How many words term k takes.
-    #[tactic(auto, using(crate::proofs::Facts::few_terms, crate::proofs::Facts::takes_at))]
+    // How many words term k takes, where the array has it.
+    #[tactic(auto, using(crate::proofs::Facts::few_terms))]
     pub fn takes(&self, k: usize) -> u32
-        requires { k < count self.now.numbers.now }
+        requires { (k < count self.now.numbers.now) × (Takes self.now.numbers.now self.now.terms.now) }
         ensures { result ≡ ins (tree self.now.numbers.now k) }
     {
         self.terms[k].ins
     }
 
     // How many words term k gives.
-    #[tactic(auto, using(crate::proofs::Facts::few_terms, crate::proofs::Facts::gives_at))]
+    #[tactic(auto, using(crate::proofs::Facts::few_terms))]
     pub fn gives(&self, k: usize) -> u32
         requires { k < count self.now.numbers.now }
         ensures { result ≡ outs (tree self.now.numbers.now k) }
@@ -89,7 +92,8 @@ impl Accepted<'_> {
     #[tactic(auto, using(crate::proofs::Sizes::cells_by_kind))]
     #[cycle(cells)]
     pub fn cells(&self, k: usize) -> u32
-        requires { (k < count self.now.numbers.now) × (size (tree self.now.numbers.now k) ≤ 4096) }
+        requires { (k < count self.now.numbers.now) × (Takes self.now.numbers.now self.now.terms.now)
+            × (size (tree self.now.numbers.now k) ≤ 4096) }
         ensures { result ≡ size (tree self.now.numbers.now k) }
     {
         match self.kind(k) {
@@ -111,6 +115,7 @@ impl Accepted<'_> {
     #[cycle(cells)]
     fn part(&self, k: usize, j: usize) -> u32
         requires there { (k < count self.now.numbers.now) × (j < 4) }
+        requires known { Takes self.now.numbers.now self.now.terms.now }
         requires lower { number_of self.now.numbers.now k j < k }
         requires few { size (operand_tree self.now.numbers.now k j) ≤ 4096 }
         ensures { result ≡ size (operand_tree self.now.numbers.now k j) }

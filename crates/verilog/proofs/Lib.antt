@@ -2,4 +2,5 @@
 pub mod Cases
 pub mod Joining
 pub mod Answering
+pub mod Buffer
 pub mod Unique

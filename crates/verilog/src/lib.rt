@@ -13,7 +13,7 @@ use meaning::{Cause, Refusal};
 
 // Writes the text of a netlist with these ports, and answers its length, which is counted before
 // the first byte is written.
-#[tactic(auto, using(crate::proofs::Answering::by_steps))]
+#[tactic(auto, unfolding(crate::specs::Writing::write_verdict), using(crate::proofs::Buffer::laws))]
 pub fn write(
     width: u32,
     netlist: &[u32],

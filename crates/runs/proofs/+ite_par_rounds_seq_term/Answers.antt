@@ -10,62 +10,62 @@ use Rattle.runs.proofs.+ite_par_rounds_seq_term.Goals as goal
 pub seq-returns-in_err-end : goal.seq-returns-in_err-end
 seq-returns-in_err-end t c =
     seq-stops (stopped _ _ _ _ _ _ c.in_err-end.ensures) c.from_residual.ensures
-    (seq-tree c.args.table.now c.requires.0 c.operand-f.ensures c.operand-g.ensures c.requires.2)
+    (seq-tree c.requires.0 c.operand-f.ensures c.operand-g.ensures c.requires.1)
 
 pub seq-term-requires-2 : goal.seq-term-requires-2
-seq-term-requires-2 t c = let p = gave _ _ _ _ _ _ _ c.requires.1 c.in_ok-end.ensures in grind (arith, by_kind)
+seq-term-requires-2 t c = let p = gave _ _ _ _ _ _ _ c.requires.0.within c.in_ok-end.ensures in grind (arith, by_kind)
 
 pub seq-returns : goal.seq-returns
 seq-returns t c =
-    seq-goes (gave _ _ _ _ _ _ _ c.requires.1 c.in_ok-end.ensures)
-    (seq-tree c.args.table.now c.requires.0 c.operand-f.ensures c.operand-g.ensures c.requires.2)
+    seq-goes (gave _ _ _ _ _ _ _ c.requires.0.within c.in_ok-end.ensures)
+    (seq-tree c.requires.0 c.operand-f.ensures c.operand-g.ensures c.requires.1)
     c.term-2.ensures
 
 pub par-returns-in_err-first : goal.par-returns-in_err-first
 par-returns-in_err-first t c =
     par-stops-first (stopped _ _ _ _ _ _ c.in_err-first.ensures) c.from_residual.ensures
-    (par-tree c.args.table.now c.requires.0 c.operand-f.ensures c.operand-g.ensures c.requires.2)
+    (par-tree c.requires.0 c.operand-f.ensures c.operand-g.ensures c.requires.1)
 
 pub par-returns-in_err-second : goal.par-returns-in_err-second
 par-returns-in_err-second t c =
-    par-stops-second (gave _ _ _ _ _ _ _ c.requires.1 c.in_ok-first.ensures) (stopped _ _ _ _ _ _ c.in_err-second.ensures)
+    par-stops-second (gave _ _ _ _ _ _ _ c.requires.0.within c.in_ok-first.ensures) (stopped _ _ _ _ _ _ c.in_err-second.ensures)
     c.from_residual-in_err-second.ensures
-    (par-tree c.args.table.now c.requires.0 c.operand-f.ensures c.operand-g.ensures c.requires.2)
+    (par-tree c.requires.0 c.operand-f.ensures c.operand-g.ensures c.requires.1)
 
 pub par-returns : goal.par-returns
 par-returns t c =
-    par-ends (gave _ _ _ _ _ _ _ c.requires.1 c.in_ok-first.ensures) (gave _ _ _ _ _ _ _ c.requires.1 c.in_ok-second.ensures)
-    (par-tree c.args.table.now c.requires.0 c.operand-f.ensures c.operand-g.ensures c.requires.2)
-    (typed c.args.table.now c.requires.0) c.gives.ensures (omega arith) c.join.ensures
+    par-ends (gave _ _ _ _ _ _ _ c.requires.0.within c.in_ok-first.ensures) (gave _ _ _ _ _ _ _ c.requires.0.within c.in_ok-second.ensures)
+    (par-tree c.requires.0 c.operand-f.ensures c.operand-g.ensures c.requires.1)
+    (typed c.requires.0) c.gives.ensures (omega arith) c.join.ensures
 
 pub ite-returns-in_err-end : goal.ite-returns-in_err-end
 ite-returns-in_err-end t c =
     ite-stops (stopped _ _ _ _ _ _ c.in_err-end.ensures) c.from_residual.ensures
-    (ite-tree c.args.table.now c.requires.0 c.operand-e.ensures c.operand-f.ensures c.operand-g.ensures c.requires.2)
+    (ite-tree c.requires.0 c.operand-e.ensures c.operand-f.ensures c.operand-g.ensures c.requires.1)
 
 pub ite-term-requires-then-choice-ne0 : goal.ite-term-requires-then-choice-ne0
-ite-term-requires-then-choice-ne0 t c = let p = gave _ _ _ _ _ _ _ c.requires.1 c.in_ok-end.ensures in grind (arith, by_kind)
+ite-term-requires-then-choice-ne0 t c = let p = gave _ _ _ _ _ _ _ c.requires.0.within c.in_ok-end.ensures in grind (arith, by_kind)
 
 pub ite-returns-then-choice-ne0 : goal.ite-returns-then-choice-ne0
 ite-returns-then-choice-ne0 t c =
-    ite-then (gave _ _ _ _ _ _ _ c.requires.1 c.in_ok-end.ensures)
-    (ite-tree c.args.table.now c.requires.0 c.operand-e.ensures c.operand-f.ensures c.operand-g.ensures c.requires.2)
+    ite-then (gave _ _ _ _ _ _ _ c.requires.0.within c.in_ok-end.ensures)
+    (ite-tree c.requires.0 c.operand-e.ensures c.operand-f.ensures c.operand-g.ensures c.requires.1)
     c.if-choice-ne0.true c.term-then-choice-ne0.ensures
 
 pub ite-term-requires-else-choice-ne0 : goal.ite-term-requires-else-choice-ne0
-ite-term-requires-else-choice-ne0 t c = let p = gave _ _ _ _ _ _ _ c.requires.1 c.in_ok-end.ensures in grind (arith, by_kind)
+ite-term-requires-else-choice-ne0 t c = let p = gave _ _ _ _ _ _ _ c.requires.0.within c.in_ok-end.ensures in grind (arith, by_kind)
 
 pub ite-returns-else-choice-ne0 : goal.ite-returns-else-choice-ne0
 ite-returns-else-choice-ne0 t c =
-    ite-else (gave _ _ _ _ _ _ _ c.requires.1 c.in_ok-end.ensures)
-    (ite-tree c.args.table.now c.requires.0 c.operand-e.ensures c.operand-f.ensures c.operand-g.ensures c.requires.2)
+    ite-else (gave _ _ _ _ _ _ _ c.requires.0.within c.in_ok-end.ensures)
+    (ite-tree c.requires.0 c.operand-e.ensures c.operand-f.ensures c.operand-g.ensures c.requires.1)
     c.if-choice-ne0.false c.term-else-choice-ne0.ensures
 
 pub rounds-returns-in_err-tested : goal.rounds-returns-in_err-tested
 rounds-returns-in_err-tested t c =
     leaves-as c.loop-tested.invariant.same
     (rec-stops (stopped _ _ _ _ _ _ c.in_err-tested.ensures) c.from_residual.ensures
-    (rec-tree c.args.table.now c.requires.0 c.operand-e.ensures c.operand-f.ensures c.operand-g.ensures c.requires.2))
+    (rec-tree c.requires.0 c.operand-e.ensures c.operand-f.ensures c.operand-g.ensures c.requires.1))
 
 pub rounds-term-requires-then-test-ne0 : goal.rounds-term-requires-then-test-ne0
 rounds-term-requires-then-test-ne0 t c =
@@ -76,7 +76,7 @@ pub rounds-returns-then-test-ne0 : goal.rounds-returns-then-test-ne0
 rounds-returns-then-test-ne0 t c =
     leaves-as c.loop-tested.invariant.same
     (rec-last (gave _ _ _ _ _ _ _ c.loop-tested.invariant.within c.in_ok-tested.ensures)
-    (rec-tree c.args.table.now c.requires.0 c.operand-e.ensures c.operand-f.ensures c.operand-g.ensures c.requires.2)
+    (rec-tree c.requires.0 c.operand-e.ensures c.operand-f.ensures c.operand-g.ensures c.requires.1)
     c.if-test-ne0.true c.term-then-test-ne0.ensures)
 
 pub rounds-term-requires-in-loop-tested : goal.rounds-term-requires-in-loop-tested
@@ -88,7 +88,7 @@ pub rounds-returns-in_err-end : goal.rounds-returns-in_err-end
 rounds-returns-in_err-end t c =
     leaves-as c.loop-tested.invariant.same
     (rec-stops-body (gave _ _ _ _ _ _ _ c.loop-tested.invariant.within c.in_ok-tested.ensures)
-    (rec-tree c.args.table.now c.requires.0 c.operand-e.ensures c.operand-f.ensures c.operand-g.ensures c.requires.2)
+    (rec-tree c.requires.0 c.operand-e.ensures c.operand-f.ensures c.operand-g.ensures c.requires.1)
     c.if-test-ne0.false (stopped _ _ _ _ _ _ c.in_err-end.ensures) c.from_residual-in_err-end.ensures)
 
 pub rounds-returns-then-end-limit : goal.rounds-returns-then-end-limit
@@ -96,7 +96,7 @@ rounds-returns-then-end-limit t c =
     let p = gave _ _ _ _ _ _ _ c.loop-tested.invariant.within c.in_ok-tested.ensures in
     leaves-as c.loop-tested.invariant.same
     (rec-stops-fed p
-    (rec-tree c.args.table.now c.requires.0 c.operand-e.ensures c.operand-f.ensures c.operand-g.ensures c.requires.2)
+    (rec-tree c.requires.0 c.operand-e.ensures c.operand-f.ensures c.operand-g.ensures c.requires.1)
     c.if-test-ne0.false (gave _ _ _ _ _ _ _ p.within c.in_ok-end.ensures) c.if-end-limit.true)
 
 pub rounds-overflow_add-at : goal.rounds-overflow_add-at
@@ -118,18 +118,18 @@ rounds-loop-tested-preserved t c =
       within = omega arith;
       same =
           c.loop-tested.invariant.same ∙ rec-goes p
-          (rec-tree c.args.table.now c.requires.0 c.operand-e.ensures c.operand-f.ensures c.operand-g.ensures c.requires.2)
+          (rec-tree c.requires.0 c.operand-e.ensures c.operand-f.ensures c.operand-g.ensures c.requires.1)
           c.if-test-ne0.false r c.if-end-limit.false;
     }
 
 pub term-leaf-requires : goal.term-leaf-requires
 term-leaf-requires t c =
     let k = c.in_default in
-    let r = leaf-row c.args.table.now c.requires.0 c.kind.ensures k.not-Seq k.not-Par k.not-Ite k.not-Rec in
-    (leaf-small r c.number-kind.ensures c.number-b.ensures, c.requires.1)
+    let r = leaf-row c.requires c.kind.ensures k.not-Seq k.not-Par k.not-Ite k.not-Rec in
+    (leaf-small r c.number-kind.ensures c.number-b.ensures, c.requires.within)
 
 pub term-returns-in_default : goal.term-returns-in_default
 term-returns-in_default t c =
     let k = c.in_default in
-    let r = leaf-row c.args.table.now c.requires.0 c.kind.ensures k.not-Seq k.not-Par k.not-Ite k.not-Rec in
+    let r = leaf-row c.requires c.kind.ensures k.not-Seq k.not-Par k.not-Ite k.not-Rec in
     leaves-as (leaf-from r c.number-kind.ensures c.number-b.ensures c.width.ensures _ _ _) c.leaf.ensures
