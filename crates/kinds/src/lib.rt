@@ -18,7 +18,7 @@ fn known(kind: u32) -> bool
     matches!(kind, 1..=4 | 9 | 12..=22)
 }
 
-// 13 to 22: the kind is an operation on words. Most terms are, and this tells it by one compare.
+// 13 to 22: the kind is an operation on words, which one compare tells before the match on kinds.
 fn operates(kind: u32) -> bool
     ensures { result ≡ and (leb 13 kind) (leb kind 22) }
 {
