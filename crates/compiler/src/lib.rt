@@ -21,7 +21,7 @@ use circuit::{Cell, Compiled};
 use meaning::{Cause, Refusal};
 use pieces::cells::{front, place};
 use pieces::rows::{inputs, wires};
-use terms::Accepted;
+use terms::{Accepted, Judged};
 
 // The cells of the whole circuit of the main term.
 fn size(table: &Accepted) -> u32
@@ -71,8 +71,9 @@ pub fn compile(width: u32, table: &[u32], netlist: &mut [u32]) -> Result<Compile
         numbers: table,
         terms: &terms,
     };
-    if netlist.len() < size(&accepted) as usize * 4 {
+    let judged = Judged { table: accepted };
+    if netlist.len() < size(&judged.table) as usize * 4 {
         return Err(Cause::NetlistRoom.into());
     }
-    Ok(whole(&accepted, netlist))
+    Ok(whole(&judged.table, netlist))
 }

@@ -16,7 +16,7 @@ ghost use Rattle.meaning.specs.Answers.{evaluated_of};
 ghost use Rattle.evaluator.specs.Answered.{ran_on};
 
 use meaning::{Answer, Cause, Refusal};
-use terms::Accepted;
+use terms::{Accepted, Judged};
 
 // The run of the main term of a table that is accepted at its width, on words that fit it.
 fn ran(table: &Accepted, input: &[u32], budget: u32) -> Option<Answer>
@@ -50,10 +50,11 @@ pub fn evaluate(
         numbers: table,
         terms: &terms,
     };
-    let taken = accepted.takes(accepted.main());
-    let width = accepted.width();
+    let judged = Judged { table: accepted };
+    let taken = judged.table.takes(judged.table.main());
+    let width = judged.table.width();
     if !inputs::fit(width, taken as usize, words) {
         return Err(Cause::InputWords.into());
     }
-    Ok(ran(&accepted, words, budget))
+    Ok(ran(&judged.table, words, budget))
 }

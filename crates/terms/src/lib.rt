@@ -3,9 +3,10 @@
 //
 //     check      the width, the length, `tables::scanned`, and the size of the whole circuit
 //     Accepted   a table that passed, and what its terms are
+//     Judged     one that passed at its own width, with all that the checks found
 #![tactic(auto)]
 
-ghost use Rattle.std.specs.Prelude.{◌≡◌, ◌<◌, ◌≤◌, ◌%◌, eqb, leb};
+ghost use Rattle.std.specs.Prelude.{◌≡◌, ◌<◌, ◌≤◌, ◌%◌, eqb, leb, Ok};
 ghost use Rattle.meaning.specs.Choices.{and};
 ghost use Rattle.meaning.specs.Terms.{number_of, kind_of, count, last_of, tree};
 ghost use Rattle.meaning.specs.Kinds.{kind_named};
@@ -27,6 +28,13 @@ pub struct Accepted<'a> {
     ghost narrow: { width ≤ 32 },
     ghost somewhere: { ∥ Passing numbers.now ∥₁ },
     ghost given: { Gives numbers.now terms.now },
+}
+
+// A table that passed every check at its own width, with all that they found of each term.
+#[derive(Clone, Copy)]
+pub struct Judged<'a> {
+    pub table: Accepted<'a>,
+    ghost judged: { facts_of table.width table.numbers.now ≡ Ok table.terms.now },
 }
 
 impl Accepted<'_> {
